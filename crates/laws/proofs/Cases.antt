@@ -1,0 +1,28 @@
+-- A test goes one way or the other.
+-- Assumes nothing.
+use mathlib.Core.Path.{_≡_, refl}
+use mathlib.Core.Bool.{Bool, true, false}
+use Prim.Native.Nat.{ℕ, _≤_, _<_}
+use lib.Dec.{leb, eqb}
+use borrow.Author.Tests.{leb-true, leb-false, eqb-true, eqb-false}
+use Rattle.laws.specs.Pick.{pick}
+
+module _ {ℓ} {X : Type ℓ} where
+  pub pick-true : {t : Bool} (x y : X) → t ≡ true → pick t x y ≡ x
+  unfolding pick
+  pick-true x y e = rw e
+
+  pub pick-false : {t : Bool} (x y : X) → t ≡ false → pick t x y ≡ y
+  unfolding pick
+  pick-false x y e = rw e
+
+module _ {ℓ} {P : Type ℓ} where
+  pub by-test : (t : Bool) → (t ≡ true → P) → (t ≡ false → P) → P
+  by-test true f g = f refl
+  by-test false f g = g refl
+
+  pub by-le : (a b : ℕ) → (a ≤ b → P) → (b < a → P) → P
+  by-le a b f g = by-test (leb a b) (λ e. f (leb-true a b e)) (λ e. g (leb-false a b e))
+
+  pub by-eq : (a b : ℕ) → (a ≡ b → P) → ((a ≡ b → ⊥) → P) → P
+  by-eq a b f g = by-test (eqb a b) (λ e. f (eqb-true a b e)) (λ e. g (eqb-false a b e))

@@ -1,0 +1,6 @@
+pub mod BitLaws
+pub mod ByteLaws
+pub mod Cases
+pub mod DigitLaws
+pub mod ListLaws
+pub mod WroteLaws

@@ -1,0 +1,54 @@
+-- Runs of stores into a list, and lists that were joined.
+-- Assumes nothing.
+use mathlib.Core.Path.{_≡_, refl}
+use mathlib.Core.List.{List, [], _∷_, _++_, append-assoc}
+use Prim.Native.Nat.{ℕ, suc, _+_, _≤_, _<_}
+use native.Mathlib.Nat.{zero-add, add-zero, add-suc, suc-add}
+use native.Mathlib.Numerals.{add-one}
+use native.Mathlib.Omega.{arith}
+use lib.ListN.{length, getD, set, take, drop, length-append}
+use lib.Seq.{take-at, drop-at, take-suc, length-take-le, sets, sets-eq}
+
+module _ {A : Type 0} where
+  pub set-past : (xs ys : List A) (n : ℕ) (a : A) → set (xs ++ ys) (length xs + n) a ≡ xs ++ set ys n a
+  set-past [] ys n a = rw zero-add
+  set-past (x ∷ xs) ys n a = rw (suc-add, set-past xs ys n a)
+
+  pub sets-past : (xs ys : List A) (n : ℕ) (vs : List A) → sets (xs ++ ys) (length xs + n) vs ≡ xs ++ sets ys n vs
+  sets-past xs ys n [] = refl
+  sets-past xs ys n (v ∷ vs) = rw (set-past xs ys n v, ← add-suc (length xs) n) (sets-past xs (set ys n v) (suc n) vs)
+
+  -- into an empty list nothing is stored
+  pub sets-nil : (i : ℕ) (vs : List A) → sets [] i vs ≡ []
+  sets-nil i [] = refl
+  sets-nil i (v ∷ vs) = sets-nil (suc i) vs
+
+  -- one run of stores after another
+  pub sets-append : (l : List A) (i : ℕ) (vs ws : List A) → sets l i (vs ++ ws) ≡ sets (sets l i vs) (i + length vs) ws
+  sets-append l i [] ws = rw add-zero
+  sets-append l i (v ∷ vs) ws = rw (sets-append (set l i v) (suc i) vs ws, suc-add, add-suc)
+
+  -- one store more
+  pub sets-take-suc : (l : List A) (at : ℕ) (vs : List A) (i : ℕ) (d : A) → i < length vs
+      → sets l at (take (i + 1) vs) ≡ set (sets l at (take i vs)) (at + i) (getD vs i d)
+  sets-take-suc l at vs i d h =
+      rw (add-one i, take-suc vs i d h, sets-append l at (take i vs) (getD vs i d ∷ []), length-take-le i vs (omega arith))
+
+  -- what stands up to the end of a run of stores, and after it
+  pub take-sets : (l : List A) (i : ℕ) (vs : List A) → i + length vs ≤ length l → take (i + length vs) (sets l i vs) ≡ take i l ++ vs
+  take-sets l i vs h =
+      rw (sets-eq vs l i h)
+      (take-at (take i l ++ vs) (drop (i + length vs) l) (i + length vs)
+      (omega (arith, length-append (take i l) vs, length-take-le i l (omega arith))))
+
+  pub drop-sets : (l : List A) (i : ℕ) (vs : List A) → i + length vs ≤ length l → drop (i + length vs) (sets l i vs) ≡ drop (i + length vs) l
+  drop-sets l i vs h =
+      rw (sets-eq vs l i h)
+      (drop-at (take i l ++ vs) (drop (i + length vs) l) (i + length vs)
+      (omega (arith, length-append (take i l) vs, length-take-le i l (omega arith))))
+
+  -- what was stored stands there
+  pub drop-stored : (l : List A) (i : ℕ) (vs : List A) → i + length vs ≤ length l → drop i (sets l i vs) ≡ vs ++ drop (i + length vs) l
+  drop-stored l i vs h =
+      rw (sets-eq vs l i h, append-assoc (take i l) vs (drop (i + length vs) l))
+      (drop-at (take i l) (vs ++ drop (i + length vs) l) i (length-take-le i l (omega arith)))
