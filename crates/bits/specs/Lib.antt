@@ -1,0 +1,4 @@
+pub mod Read
+pub mod Text7
+pub mod Val
+pub mod Write

@@ -1,0 +1,30 @@
+-- `Reader` of bits.rs, on the bits that are left.
+-- Assumes nothing.
+use mathlib.Core.Bool.{Bool}
+use mathlib.Core.List.{List, map}
+use mathlib.Core.Option.{Option, none, some}
+use Prim.Native.Nat.{ℕ, _+_}
+use lib.ListN.{length, take, drop}
+use lib.Dec.{leb}
+use Rattle.laws.specs.Bits.{num, valueOf}
+use Rattle.laws.specs.Pick.{pick}
+use Rattle.bits.specs.Val.{valOf}
+use Rattle.bits.specs.declared.read.Taken.{Taken}
+use Rattle.bits.specs.declared.read.Taken.the-variants.{Bits, Short}
+
+-- `take`: the first n bits as a number, and what is left; nothing where there are fewer
+unfoldable pub takeBits : ℕ → List Bool → Option (ℕ × List Bool)
+takeBits n b = pick (leb n (length b)) (some (valueOf (take n b), drop n b)) none
+
+-- a bit as the letter 0 or 1
+abbrev pub letter : Bool → ℕ
+letter b = 48 + num b
+
+-- `text`, and `vb_val` of it: the number whose decimal digits the first n bits are
+unfoldable pub takeText : ℕ → List Bool → Option (ℕ × List Bool)
+takeText n b = pick (leb n (length b)) (some (valOf (map letter (take n b)), drop n b)) none
+
+-- the answer at a position, with the next one
+unfoldable pub taken : ℕ → Option (ℕ × List Bool) → Taken
+taken next none = Short
+taken next (some p) = Bits (p .0) next
