@@ -1,0 +1,106 @@
+//! The answers of the unmodified source in the terms of document 01: values, or the number of a refusal.
+
+pub mod bits;
+pub mod hex;
+pub mod random;
+mod receiver;
+
+pub use receiver::{Answer, Receiver, State};
+
+use std::ops::RangeInclusive;
+use xara_arq::ax25;
+use xara_arq::kiss::{self, Command};
+use xara_phy::crc::crc16_genibus;
+use xara_phy::hf::frame::{Control, build_frame};
+
+/// The most bytes of data to code.
+pub const MAX_DATA: usize = 4_999;
+/// The most bytes of a message.
+pub const MAX_MESSAGE: usize = 5_000;
+/// The field sizes of the domain.
+pub const FIELDS: RangeInclusive<usize> = 3..=512;
+
+/// The refusals of document 01 that the source has an answer for.
+pub const BAD_COMMAND: u8 = 1;
+pub const TOO_LONG: u8 = 2;
+pub const SHORT: u8 = 3;
+pub const BAD_CALL: u8 = 4;
+pub const FORMAT: u8 = 5;
+pub const UNDECODABLE: u8 = 7;
+pub const BAD_FIELD: u8 = 8;
+
+/// The control byte of a UI frame.
+const UI: u8 = 0x03;
+
+/// Codes data: the message and its type's code.
+pub fn encode(command: u8, data: &[u8]) -> Result<(Vec<u8>, u8), u8> {
+    let command = accepted(command, data)?;
+    let buffer = kiss::encode(command, data).map_err(coder_refusal)?;
+    Ok((buffer.bytes, buffer.aprs_type.code()))
+}
+
+/// Decodes a message: the command and the data.
+pub fn decode(message: &[u8]) -> Result<(u8, Vec<u8>), u8> {
+    if message.len() > MAX_MESSAGE {
+        return Err(TOO_LONG);
+    }
+    let (command, data) = kiss::decode(message).ok_or(UNDECODABLE)?;
+    Ok((command.byte(), data))
+}
+
+/// The summary of data to code: type, number of digipeaters, and whether control is 03.
+pub fn summary(command: u8, data: &[u8]) -> Result<(u8, usize, bool), u8> {
+    let command = accepted(command, data)?;
+    if command == Command::Generic {
+        return Ok((ax25::AprsType::Text.code(), 0, false));
+    }
+    let record = ax25::parse(data, command).map_err(ax25_refusal)?;
+    Ok((record.aprs_type.code(), record.digis.len(), record.ctrl == UI))
+}
+
+/// CRC-16/GENIBUS.
+pub fn crc(data: &[u8]) -> u16 {
+    crc16_genibus(data)
+}
+
+/// The number of fragments of a message with so many bytes.
+pub fn count(total: usize, field: usize) -> Result<usize, u8> {
+    if !FIELDS.contains(&field) {
+        return Err(BAD_FIELD);
+    }
+    if total > MAX_MESSAGE {
+        return Err(TOO_LONG);
+    }
+    Ok(kiss::count_for_field(total, field))
+}
+
+/// All fragments of a message, with the source's count; field is 3 or more.
+pub fn split(message: &[u8], field: usize, mask: u8) -> Vec<Vec<u8>> {
+    kiss::split_masked(message, kiss::count_for_field(message.len(), field), field, mask)
+}
+
+/// The frame of a fragment, with no last byte.
+pub fn frame(field: usize, data: &[u8], reply: u8, compressed: bool, hint: u8, marker: u8) -> Vec<u8> {
+    build_frame(field + 3, data, Control { reply, compressed, hint }, None, marker)
+}
+
+/// The command, where it and the length of the data are accepted.
+fn accepted(command: u8, data: &[u8]) -> Result<Command, u8> {
+    let command = Command::from_byte(command).ok_or(BAD_COMMAND)?;
+    if data.len() > MAX_DATA { Err(TOO_LONG) } else { Ok(command) }
+}
+
+fn coder_refusal(error: kiss::Error) -> u8 {
+    match error {
+        kiss::Error::Ax25(error) => ax25_refusal(error),
+        kiss::Error::TooLong => unreachable!("only the source's own choice of a level answers this"),
+    }
+}
+
+fn ax25_refusal(error: ax25::Error) -> u8 {
+    match error {
+        ax25::Error::Short => SHORT,
+        ax25::Error::BadCall(_) => BAD_CALL,
+        ax25::Error::Format => FORMAT,
+    }
+}

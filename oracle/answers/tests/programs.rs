@@ -1,0 +1,59 @@
+//! The two programs as they are run.
+
+use std::io::Write;
+use std::process::{Command, Stdio};
+
+fn ask(requests: &[u8]) -> Vec<String> {
+    let mut line =
+        Command::new(env!("CARGO_BIN_EXE_line")).stdin(Stdio::piped()).stdout(Stdio::piped()).spawn().unwrap();
+    line.stdin.take().unwrap().write_all(requests).unwrap();
+    let out = line.wait_with_output().unwrap();
+    assert!(out.status.success());
+    String::from_utf8(out.stdout).unwrap().lines().map(str::to_string).collect()
+}
+
+#[test]
+fn a_bad_line_is_answered_and_the_rest_goes_on() {
+    let answers = ask(b"crc 1\ncrc\nwhat -\n\n\xFF\npush a 5 00\nnew a F\nsplit 2 F0 00\ncrc -\n");
+    assert_eq!(answers.len(), 9);
+    assert!(answers[..8].iter().all(|a| a.starts_with("error: ")));
+    assert_eq!(answers[8], "0000");
+}
+
+#[test]
+fn every_request_is_answered() {
+    let requests = b"encode 2 41\nencode 3 41\ndecode 2182\nparse 0 86A240404040609662824040406103F041\n\
+        count 6 5\nsplit 5 F0 40ACB701001040\nframe 5 0 0 0 01 40001040\nnew a F0\npush a 5 0000000000000000\n\
+        join a 5 C040ACB701\nstate a\njoin a 4 40001040\nreset a\nstate a\n";
+    let expected = [
+        "0 2182",
+        "refused 1",
+        "2 41",
+        "0 0 1",
+        "2",
+        "C040ACB701 40001040",
+        "4000104014005242",
+        "ok",
+        "dropped",
+        "more",
+        "held C0ACB701 fragments 1 check 40 mask F0 overflow 0",
+        "done 40ACB701001040",
+        "ok",
+        "held - fragments 0 check 40 mask F0 overflow 0",
+    ];
+    assert_eq!(ask(requests), expected);
+}
+
+#[test]
+fn the_recorded_file_is_well_formed() {
+    let out = Command::new(env!("CARGO_BIN_EXE_record")).output().unwrap();
+    assert!(out.status.success());
+    let file = String::from_utf8(out.stdout).unwrap();
+    assert!(file.is_ascii() && file.ends_with('\n') && file.len() < 600_000);
+    for line in file.lines().filter(|line| !line.starts_with('#')) {
+        assert!(line.split(' ').all(|word| !word.is_empty()), "{line}");
+    }
+    assert!(file.contains("\ncrc 313233343536373839 D64E\n"));
+    assert!(file.contains("\ncrc - 0000\n"));
+    assert!(file.contains("\ntext7 0 - none\n"));
+}
