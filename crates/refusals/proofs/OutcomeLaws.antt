@@ -1,0 +1,28 @@
+-- The cases of an answer with a lent output.
+-- Assumes nothing.
+use mathlib.Core.Path.{_≡_, refl, ap₂}
+use mathlib.Core.List.{List, []}
+use Prim.Native.Nat.{ℕ, _≤_, _<_}
+use lib.ListN.{length}
+use lib.Seq.{sets}
+use borrow.Author.Tests.{lt-ltb, le-ltb}
+use Rattle.laws.specs.Pick.{pick}
+use Rattle.laws.specs.Wrote.{Wrote}
+use Rattle.refusals.specs.Outcome.{Outcome, refused, answer, left, into}
+
+pub into-refused : (n : ℕ) (out : List ℕ) → into (refused n) out ≡ left (refused n) out
+unfolding into
+into-refused n out = refl
+
+module _ (v out : List ℕ) where
+  pub into-short : length out < length v → into (answer v) out ≡ left (refused 6) out
+  unfolding into pick
+  into-short h = rw (lt-ltb (length out) (length v) h)
+
+  pub into-fits : length v ≤ length out → into (answer v) out ≡ left (answer (length v)) (sets out 0 v)
+  unfolding into pick
+  into-fits h = rw (le-ltb (length out) (length v) h)
+
+  -- the bytes were written from the front, and the place behind them is the answer
+  pub into-wrote : {now : List ℕ} {next : ℕ} → length v ≤ length out → Wrote out 0 v now next → left (answer (length v)) now ≡ into (answer v) out
+  into-wrote h w = rw (into-fits h, w .stored)
