@@ -1,6 +1,6 @@
 -- A frame is heard: document 01, the end of "hf/frame.rs".
 -- Assumes nothing.
-use mathlib.Core.Bool.{Bool, not}
+use mathlib.Core.Bool.{not}
 use mathlib.Core.List.{List, [], _∷_}
 use Prim.Native.Nat.{ℕ, _+_, _%_}
 use lib.ListN.{length, getD, take}

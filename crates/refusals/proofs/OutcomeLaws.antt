@@ -1,14 +1,14 @@
 -- The cases of an answer with a lent output.
 -- Assumes nothing.
-use mathlib.Core.Path.{_≡_, refl, ap₂}
-use mathlib.Core.List.{List, []}
+use mathlib.Core.Path.{_≡_, refl}
+use mathlib.Core.List.{List}
 use Prim.Native.Nat.{ℕ, _≤_, _<_}
 use lib.ListN.{length}
 use lib.Seq.{sets}
 use borrow.Author.Tests.{lt-ltb, le-ltb}
 use Rattle.laws.specs.Pick.{pick}
 use Rattle.laws.specs.Wrote.{Wrote}
-use Rattle.refusals.specs.Outcome.{Outcome, refused, answer, left, into}
+use Rattle.refusals.specs.Outcome.{refused, answer, left, into}
 
 pub into-refused : (n : ℕ) (out : List ℕ) → into (refused n) out ≡ left (refused n) out
 unfolding into

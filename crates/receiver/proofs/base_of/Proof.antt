@@ -1,15 +1,15 @@
+-- `receiver::base_of` meets its contract.
+-- Assumes nothing.
+use mathlib.Core.Path.{sym}
+use Rattle.receiver.proofs.JoinLaws.{base-none, base-some}
 use Rattle.receiver.proofs.base_of.Statement.{statement}
 use Rattle.receiver.proofs.base_of.Tie as tie
-use Rattle.receiver.proofs.base_of.Reads as reads
-use Rattle.receiver.proofs.base_of.Lts as lts
 
--- src/lib.rt:48:9
 returns : tie.Need-returns
-returns c = ?
+returns c = sym (base-none _ (c .if1 .taken))
 
--- src/lib.rt:44:1
 returns-2 : tie.Need-returns-2
-returns-2 c = ?
+returns-2 c = sym (base-some _ (c .if1 .left))
 
 pub base-of-spec : {M : Type 1} → statement M
 base-of-spec = tie.close (tie.spec returns returns-2)

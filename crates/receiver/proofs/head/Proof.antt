@@ -1,24 +1,22 @@
+-- `receiver::head` meets its contract.
+-- Assumes nothing.
 use borrow.Author.Needs.{needs}
+use mathlib.Core.Path.{sym}
+use Rattle.receiver.proofs.JoinLaws.{headed-none, headed-some}
 use Rattle.receiver.proofs.head.Statement.{statement}
 use Rattle.receiver.proofs.head.Tie as tie
-use Rattle.receiver.proofs.head.Reads as reads
-use Rattle.receiver.proofs.head.Lts as lts
 
--- src/lib.rt:68:9
 slice-write-store : tie.Need-slice-write-store
 slice-write-store c = search needs
 
--- src/lib.rt:63:1
 same-length : tie.Need-same-length
 same-length c = search needs
 
--- src/lib.rt:63:1
 returns : tie.Need-returns
-returns c = ?
+returns c = sym (headed-none _ (c .before .args .store .now) (c .before .args .first) (c .if1 .taken))
 
--- src/lib.rt:63:1
 returns-2 : tie.Need-returns-2
-returns-2 c = ?
+returns-2 c = sym (headed-some _ (c .before .args .store .now) (c .before .args .first) (c .if1 .left))
 
 pub head-spec : {M : Type 1} → statement M
 head-spec = tie.close (tie.spec slice-write-store same-length returns returns-2)

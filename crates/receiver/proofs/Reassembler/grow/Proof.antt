@@ -1,60 +1,74 @@
+-- `Reassembler::grow` meets its contract: each way out is a case of the definition.
+-- Assumes nothing.
 use borrow.Author.Needs.{needs}
+use mathlib.Core.Path.{sym, _∙_}
+use Prim.Native.Nat.{_≤_, _<_}
+use native.Mathlib.Omega.{arith}
+use Rattle.receiver.proofs.JoinLaws.{grow-many, grow-long, grow-more, grow-last, base-le, base-pos}
 use Rattle.receiver.proofs.Reassembler.grow.Statement.{statement}
 use Rattle.receiver.proofs.Reassembler.grow.Tie as tie
-use Rattle.receiver.proofs.Reassembler.grow.Reads as reads
-use Rattle.receiver.proofs.Reassembler.grow.Lts as lts
-use Rattle.bits.proofs.write.copy.Reads as copy-reads
-use Rattle.receiver.proofs.Reassembler.finish.Reads as finish-reads
-use Rattle.receiver.proofs.base_of.Reads as base-of-reads
-use Rattle.receiver.proofs.head.Reads as head-reads
 
--- src/lib.rt:169:13
+-- what stands before the tail fits the store
+base-fits : (c : tie.After-base-of) → c .base-of .result ≤ 5000
+base-fits c = rw (c .base-of .ensures) (base-le (c .before .before .before .args .self .held) 5000 (omega arith) (omega arith))
+
 base-of-requires : tie.Need-base-of-requires
 base-of-requires c κs = search needs
 
--- src/lib.rt:181:13
 returns : tie.Need-returns
-returns c = ?
+returns c = sym (grow-many _ _ _ _ (c .if1 .taken))
 
--- src/lib.rt:183:12
 sub-if2 : tie.Need-sub-if2
-sub-if2 c = ?
+sub-if2 c = base-fits (c .before)
 
--- src/lib.rt:184:13
 returns-2 : tie.Need-returns-2
-returns-2 c = ?
+returns-2 c = sym (grow-long _ _ _ _ (c .before .if1 .left) (rw (c .before .before .base-of .ensures) at (c .if2 .taken)))
 
--- src/lib.rt:186:9
 head-requires : tie.Need-head-requires
 head-requires c κs = search needs
 
--- src/lib.rt:187:13
 copy-requires : tie.Need-copy-requires
-copy-requires c κs = ?
+copy-requires c κs =
+    let a = c .before .before .before .before .before .before .before in
+    omega (arith, base-fits a, a .before .before .before .good)
 
--- src/lib.rt:190:20
 add-t16 : tie.Need-add-t16
 add-t16 c = search needs
 
--- src/lib.rt:196:13
 same-length : tie.Need-same-length
 same-length c = search needs
 
--- src/lib.rt:196:13
 returns-3 : tie.Need-returns-3
-returns-3 c = ?
+returns-3 c =
+    let p = c .before .before .before in
+    let h = p .before .before .before .before in
+    let e2 = h .before .before in
+    let a = e2 .before .before in
+    rw (p .copy .ensures .stored, p .copy .ensures .next-is, h .head .ensures, a .base-of .ensures)
+    (sym (grow-more _ _ _ _ (e2 .before .if1 .left) (rw (a .base-of .ensures) at (e2 .if2 .left)) (c .if3 .taken)))
 
--- src/lib.rt:201:9
 finish-requires : tie.Need-finish-requires
-finish-requires c κs = ?
+finish-requires c κs =
+    let p = c .before .before .before .before in
+    let h = p .before .before .before .before in
+    let e2 = h .before .before in
+    let a = e2 .before .before in
+    let q : 0 < a .base-of .result = rw (a .base-of .ensures) (base-pos (a .before .before .before .args .self .held)) in
+    omega (arith, q, base-fits a, h .head .kept .0, p .copy .kept .0, p .copy .ensures .next-is, e2 .if2 .left)
 
--- src/lib.rt:161:5
 same-length-2 : tie.Need-same-length-2
 same-length-2 c = search needs
 
--- src/lib.rt:161:5
 returns-4 : tie.Need-returns-4
-returns-4 c = ?
+returns-4 c =
+    let f = c .before .before in
+    let p = f .before .before .before .before .before in
+    let h = p .before .before .before .before in
+    let e2 = h .before .before in
+    let a = e2 .before .before in
+    f .finish .ensures
+    ∙ rw (p .copy .ensures .stored, p .copy .ensures .next-is, h .head .ensures, a .base-of .ensures)
+    (sym (grow-last _ _ _ _ (e2 .before .if1 .left) (rw (a .base-of .ensures) at (e2 .if2 .left)) (f .before .before .if3 .left)))
 
 pub grow-spec : {M : Type 1} → statement M
 grow-spec =

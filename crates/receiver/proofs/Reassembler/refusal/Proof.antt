@@ -1,33 +1,39 @@
+-- `Reassembler::refusal` meets its contract.
+-- Assumes nothing.
 use borrow.Author.Needs.{needs}
+use borrow.Author.Tests.{eq-eqb, ne-eqb, lt-ltb, le-ltb}
+use mathlib.Core.Path.{sym, _∙_}
+use Rattle.laws.specs.Pick.{pick}
+use Rattle.receiver.specs.Join.{refusalOf}
 use Rattle.receiver.proofs.Reassembler.refusal.Statement.{statement}
 use Rattle.receiver.proofs.Reassembler.refusal.Tie as tie
-use Rattle.receiver.proofs.Reassembler.refusal.Reads as reads
-use Rattle.receiver.proofs.Reassembler.refusal.Lts as lts
-use Rattle.refusals.proofs.mask_ok.Reads as mask-ok-reads
 
--- src/lib.rt:265:13
 returns : tie.Need-returns
-returns c = ?
+unfolding refusalOf pick
+returns c = simp (ne-eqb _ _ (c .if1 .taken))
 
--- src/lib.rt:268:13
 returns-2 : tie.Need-returns-2
-returns-2 c = ?
+unfolding refusalOf pick
+returns-2 c = simp (eq-eqb _ _ (c .before .if1 .left), lt-ltb _ _ (c .if2 .taken))
 
--- src/lib.rt:271:13
 returns-3 : tie.Need-returns-3
-returns-3 c = ?
+unfolding refusalOf pick
+returns-3 c = simp (eq-eqb _ _ (c .before .before .if1 .left), le-ltb _ _ (c .before .if2 .left), lt-ltb _ _ (c .if3 .taken))
 
--- src/lib.rt:273:12
 mask-ok-requires : tie.Need-mask-ok-requires
 mask-ok-requires c κs = search needs
 
--- src/lib.rt:274:13
 returns-4 : tie.Need-returns-4
-returns-4 c = ?
+unfolding refusalOf pick
+returns-4 c =
+    let k = c .before .before in
+    simp (eq-eqb _ _ (k .before .before .if1 .left), le-ltb _ _ (k .before .if2 .left), le-ltb _ _ (k .if3 .left), sym (c .before .mask-ok .ensures) ∙ c .if4 .taken)
 
--- src/lib.rt:258:5
 returns-5 : tie.Need-returns-5
-returns-5 c = ?
+unfolding refusalOf pick
+returns-5 c =
+    let k = c .before .before in
+    simp (eq-eqb _ _ (k .before .before .if1 .left), le-ltb _ _ (k .before .if2 .left), le-ltb _ _ (k .if3 .left), sym (c .before .mask-ok .ensures) ∙ c .if4 .left)
 
 pub refusal-spec : {M : Type 1} → statement M
 refusal-spec =

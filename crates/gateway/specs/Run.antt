@@ -1,0 +1,81 @@
+-- "The list of demand 3": pushes, joins and resets on one receiver and one store.
+-- Assumes nothing.
+use mathlib.Core.Bool.{Bool, true, false, _&&_, _||_, not}
+use mathlib.Core.List.{List, [], _∷_, _++_}
+use mathlib.Core.Option.{Option, none, some}
+use Prim.Native.Nat.{ℕ, _+_}
+use lib.ListN.{length, getD}
+use lib.Dec.{ltb, eqb}
+use Rattle.laws.specs.Pick.{pick}
+use Rattle.refusals.specs.Limits.{fieldOk}
+use Rattle.receiver.specs.Join.{Heard, After, resetOf, joinOf}
+use Rattle.receiver.specs.New.{freshOf}
+use Rattle.receiver.specs.Push.{fragmentLength, pushOf}
+use Rattle.receiver.specs.declared.Reassembler.{Reassembler}
+
+pub data Call : Type 0 where
+  push : List ℕ → ℕ → Call  -- a frame, and the field
+  join : List ℕ → ℕ → Call  -- f, and n
+  reset : Call
+
+-- a receiver and its store
+pub record State : Type 0 where
+  pub receiver : Reassembler
+  pub store : List ℕ
+
+abbrev pub state : Reassembler → List ℕ → State
+state r s = record { receiver = r; store = s }
+
+-- what a call answers, a reset nothing, and the state that it leaves
+pub record Step : Type 0 where
+  pub answer : Option Heard
+  pub next : State
+
+abbrev pub seen : After → Step
+seen a = record { answer = some (a .heard); next = state (a .receiver) (a .store) }
+
+abbrev pub stepOf : State → Call → Step
+stepOf t (push f field) = seen (pushOf (t .receiver) (t .store) f field)
+stepOf t (join f n) = seen (joinOf (t .receiver) (t .store) f n)
+stepOf t reset = record { answer = none; next = state (resetOf (t .receiver)) (t .store) }
+
+-- "Each `push`, `join` and reset gets the state and the store as the call before left them": all answers, and what is left
+unfoldable pub runOf : State → List Call → List (Option Heard)
+runOf t [] = []
+runOf t (c ∷ cs) = stepOf t c .answer ∷ runOf (stepOf t c .next) cs
+
+unfoldable pub leftBy : State → List Call → State
+leftBy t [] = t
+leftBy t (c ∷ cs) = leftBy (stepOf t c .next) cs
+
+-- "A push or join is idle where it is refused, its frame has another length, or n is 0 or beyond f". (With an accepted mask and a store of
+-- 5,000 bytes it is refused only for its field.)
+abbrev pub idle : Call → Bool
+idle (push f field) =
+    not (fieldOk field)
+    || (not (eqb (length f) (field + 3))
+    || (eqb (fragmentLength f field) 0 || ltb (length f) (fragmentLength f field)))
+idle (join f n) = eqb n 0 || ltb (length f) n
+idle reset = false
+
+-- "An ending is a reset, or a push or join that is not idle and whose first fragment byte is below 80."
+abbrev pub ending : Call → Bool
+ending (push f field) = not (idle (push f field)) && ltb (getD f 0 0) 0x80
+ending (join f n) = not (idle (join f n)) && ltb (getD f 0 0) 0x80
+ending reset = true
+
+unfoldable pub anyEnding : List Call → Bool
+anyEnding [] = false
+anyEnding (c ∷ cs) = ending c || anyEnding cs
+
+-- "the calls since the last ending", or all of them
+unfoldable pub since : List Call → List Call
+since [] = []
+since (c ∷ cs) = pick (anyEnding cs) (since cs) (pick (ending c) cs (c ∷ cs))
+
+-- the answers to the calls `cs` that come after `past`, each "the one that a fresh receiver gives to the same call after only the calls
+-- since the last ending before it, or since the start", with a store of its own for each
+unfoldable pub freshly : ℕ → (List Call → List ℕ) → List Call → List Call → List (Option Heard)
+freshly mask stores past [] = []
+freshly mask stores past (c ∷ cs) =
+    stepOf (leftBy (state (freshOf mask) (stores past)) (since past)) c .answer ∷ freshly mask stores (past ++ (c ∷ [])) cs
