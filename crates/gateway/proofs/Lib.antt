@@ -1,0 +1,3 @@
+pub mod Forget
+pub mod Sim
+pub mod View
