@@ -27,8 +27,8 @@ last-append : (i b : ℕ) (xs ys : List ℕ) → lastFrom i b (xs ++ ys) ≡ las
 unfolding lastFrom
 last-append i b [] ys = ap (λ (k : ℕ). lastFrom k b ys) (sym (add-zero i))
 last-append i b (x ∷ xs) ys =
-    last-append (i + 1) (pick (eqb x 0x14) i b) xs ys
-    ∙ ap (λ (k : ℕ). lastFrom k (lastFrom (i + 1) (pick (eqb x 0x14) i b) xs) ys) (omega arith)
+    last-append (i + 1) (pick (eqb x terminator) i b) xs ys
+    ∙ ap (λ (k : ℕ). lastFrom k (lastFrom (i + 1) (pick (eqb x terminator) i b) xs) ys) (omega arith)
 
 last-zeros : (i b n : ℕ) → lastFrom i b (replicate n 0) ≡ b
 unfolding lastFrom pick

@@ -7,6 +7,7 @@ use lib.ListN.{length, getD, take}
 use lib.Dec.{ltb, eqb}
 use Rattle.laws.specs.Pick.{pick}
 use Rattle.refusals.specs.Limits.{fieldOk}
+use Rattle.frame.specs.Frame.{terminator}
 use Rattle.receiver.specs.Join.{After, answered, refusalOf, joinOf}
 use Rattle.receiver.specs.declared.Reassembler.{Reassembler}
 use Rattle.receiver.specs.declared.Push.the-variants.{Refused, Dropped}
@@ -14,7 +15,7 @@ use Rattle.receiver.specs.declared.Push.the-variants.{Refused, Dropped}
 -- the place of the last 14 in a list whose first element stands at i, or b where there is none
 unfoldable pub lastFrom : ℕ → ℕ → List ℕ → ℕ
 lastFrom i b [] = b
-lastFrom i b (x ∷ xs) = lastFrom (i + 1) (pick (eqb x 0x14) i b) xs
+lastFrom i b (x ∷ xs) = lastFrom (i + 1) (pick (eqb x terminator) i b) xs
 
 -- "Fragment length is field where the control byte's bit 0 is set, else the place of the last 14 in the field, else 0."
 unfoldable pub fragmentLength : List ℕ → ℕ → ℕ

@@ -5,9 +5,7 @@ ghost use lib.ListN.{length};
 ghost use Rattle.receiver.specs.Join.{after, resetOf, baseOf, headed, finishOf, growOf, acceptOf, refusalOf, joinOf};
 ghost use Rattle.receiver.specs.New.{madeOf, newOf};
 ghost use Rattle.receiver.specs.Push.{fragmentLength, pushOf};
-
-// The byte behind a fragment that is shorter than its field.
-const TERMINATOR: u8 = 0x14;
+use frame::TERMINATOR;
 
 // What is known of the message that is being heard. Its bytes are the first `held` of the store.
 pub struct Reassembler {

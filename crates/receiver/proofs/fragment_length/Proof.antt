@@ -12,6 +12,7 @@ use lib.ListN.{length, take, getD}
 use lib.Dec.{eqb}
 use lib.Seq.{slice, slice-cons, slice-empty}
 use Rattle.laws.specs.Pick.{pick}
+use Rattle.frame.specs.Frame.{terminator}
 use Rattle.laws.proofs.Cases.{pick-true, pick-false}
 use Rattle.receiver.specs.Push.{lastFrom}
 use Rattle.receiver.proofs.PushLaws.{length-full, length-last}
@@ -19,9 +20,9 @@ use Rattle.receiver.proofs.fragment_length.Statement.{statement}
 use Rattle.receiver.proofs.fragment_length.Tie as tie
 
 -- one place more, and none left
-more : (i b t : ℕ) (l : List ℕ) → i < t → t ≤ length l → lastFrom i b (slice i t l) ≡ lastFrom (i + 1) (pick (eqb (getD l i 0) 0x14) i b) (slice (i + 1) t l)
+more : (i b t : ℕ) (l : List ℕ) → i < t → t ≤ length l → lastFrom i b (slice i t l) ≡ lastFrom (i + 1) (pick (eqb (getD l i 0) terminator) i b) (slice (i + 1) t l)
 unfolding lastFrom
-more i b t l h k = ap (lastFrom i b) (slice-cons i t l 0 h k) ∙ ap (λ (x : ℕ). lastFrom (i + 1) (pick (eqb (getD l i 0) 0x14) i b) (slice x t l)) (sym (add-one i))
+more i b t l h k = ap (lastFrom i b) (slice-cons i t l 0 h k) ∙ ap (λ (x : ℕ). lastFrom (i + 1) (pick (eqb (getD l i 0) terminator) i b) (slice x t l)) (sym (add-one i))
 
 none : (i b t : ℕ) (l : List ℕ) → i ≡ t → lastFrom i b (slice i t l) ≡ b
 unfolding lastFrom
@@ -53,7 +54,7 @@ loop-less c = search needs
 
 -- the place kept after a turn
 kept : (c : tie.Joined2 Inv-loop μ-loop)
-    → c .if2 .last ≡ pick (eqb (getD (c .before .before .before .before .before .before .args .f .now) (c .before .before .before .loop .i) 0) 0x14) (c .before .before .before .loop .i) (c .before .before .before .loop .last)
+    → c .if2 .last ≡ pick (eqb (getD (c .before .before .before .before .before .before .args .f .now) (c .before .before .before .loop .i) 0) terminator) (c .before .before .before .loop .i) (c .before .before .before .loop .last)
 kept c =
     ⊎-elim
     (λ w. w .1 ∙ sym (pick-true _ _ (eq-eqb _ _ (w .0 .taken))))

@@ -1,0 +1,252 @@
+// The kinds of lines. A new kind is a function here, a row of `name`, a row of `run` and one more in `KINDS`.
+ghost use Prim.Native.Nat.{_≤_};
+ghost use lib.ListN.{length};
+use crate::answer::Outcome;
+use crate::answer::same_bytes;
+use crate::answer::same_got;
+use crate::answer::same_number;
+use crate::answer::same_taken;
+use crate::field::field;
+use crate::field::fields;
+use crate::field::find;
+use crate::field::hex;
+use crate::field::numbers;
+
+// How many kinds there are.
+pub const KINDS: usize = 8;
+
+// The name of a kind, with blanks behind it.
+fn name(kind: usize) -> [u8; 12] {
+    match kind {
+        0 => *b"crc         ",
+        1 => *b"push        ",
+        2 => *b"bfi         ",
+        3 => *b"text        ",
+        4 => *b"take        ",
+        5 => *b"digits      ",
+        6 => *b"text7       ",
+        7 => *b"val         ",
+        _ => *b"            ",
+    }
+}
+
+// Makes the call of a line again and compares the answers.
+pub fn run(kind: usize, line: &[u8]) -> Outcome {
+    match kind {
+        0 => crc(line),
+        1 => push(line),
+        2 => bfi(line),
+        3 => text(line),
+        4 => take(line),
+        5 => digits(line),
+        6 => text7(line),
+        7 => val(line),
+        _ => Outcome::Bad,
+    }
+}
+
+// The kind that a line names, or `KINDS` where it names none.
+pub fn kind_of(line: &[u8]) -> usize {
+    let mut kind: usize = 0;
+    while kind < KINDS {
+        if is_kind(line, kind) {
+            return kind;
+        }
+        kind += 1;
+    }
+    KINDS
+}
+
+// Whether a line names this kind.
+fn is_kind(line: &[u8], kind: usize) -> bool {
+    let padded = name(kind);
+    let n = find(&padded, 0, b' ');
+    check::same(field(line, 0), &padded[0..n])
+}
+
+// Writes the name of a kind.
+pub fn print_name(kind: usize) {
+    let padded = name(kind);
+    let n = find(&padded, 0, b' ');
+    io::write_all(1, &padded[0..n]);
+}
+
+// crc HEX CRC
+fn crc(line: &[u8]) -> Outcome {
+    if fields(line) != 3 {
+        return Outcome::Bad;
+    }
+    let mut data = io::large_buffer();
+    let read = hex(field(line, 1), &mut data);
+    if !read.good {
+        return Outcome::Bad;
+    }
+    let n = read.n;
+    let c = crc::crc16_genibus(&data[0..n]);
+    same_bytes(field(line, 2), &[(c / 256) as u8, (c % 256) as u8])
+}
+
+// push V AT W N HEX: V in AT bits, then the low N bits of W
+fn push(line: &[u8]) -> Outcome {
+    let r = two_words(line);
+    if !r.good {
+        return Outcome::Bad;
+    }
+    let mut out = [0u8; 16];
+    let mid = bits::write::push(&mut out, 0, r.v, r.at);
+    let end = (bits::write::push(&mut out, mid, r.w, r.n) + 7) / 8;
+    same_bytes(field(line, 5), &out[0..end])
+}
+
+// bfi V AT W N HEX: V in AT bits, then the highest N bits of W
+fn bfi(line: &[u8]) -> Outcome {
+    let r = two_words(line);
+    if !r.good {
+        return Outcome::Bad;
+    }
+    if r.n == 0 {
+        return Outcome::Bad;
+    }
+    let mut out = [0u8; 16];
+    let mid = bits::write::push(&mut out, 0, r.v, r.at);
+    let end = (bits::write::push_bfi(&mut out, mid, r.w, r.n) + 7) / 8;
+    same_bytes(field(line, 5), &out[0..end])
+}
+
+// V AT W N of a line; not good where a width is more than a word's.
+struct Words {
+    good: bool,
+    v: u64,
+    at: usize,
+    w: u64,
+    n: usize,
+}
+
+// Reads the numbers of a push or bfi line.
+fn two_words(line: &[u8]) -> Words
+    ensures { λ r. ⌜ (r .at ≤ 64) × (r .n ≤ 64) ⌝ }
+{
+    let bad = Words {
+        good: false,
+        v: 0,
+        at: 0,
+        w: 0,
+        n: 0,
+    };
+    let mut v = [0u64; 4];
+    if !numbers(line, 6, &mut v) {
+        return bad;
+    }
+    if 64 < v[1] {
+        return bad;
+    }
+    if 64 < v[3] {
+        return bad;
+    }
+    Words {
+        good: true,
+        v: v[0],
+        at: v[1] as usize,
+        w: v[2],
+        n: v[3] as usize,
+    }
+}
+
+// text V AT TEXT HEX: V in AT bits, then a text of seven bits a byte
+fn text(line: &[u8]) -> Outcome {
+    let mut v = [0u64; 2];
+    if !numbers(line, 5, &mut v) {
+        return Outcome::Bad;
+    }
+    if 64 < v[1] {
+        return Outcome::Bad;
+    }
+    let mut data = io::large_buffer();
+    let read = hex(field(line, 3), &mut data);
+    if !read.good {
+        return Outcome::Bad;
+    }
+    let n = read.n;
+    let mut out = io::large_buffer();
+    let end = push_text(&mut out, v[0], v[1] as usize, &data[0..n]);
+    same_bytes(field(line, 4), &out[0..end])
+}
+
+// Makes the calls of a text line. How many bytes were written: the pad goes up to a whole byte.
+fn push_text(out: &mut [u8], v: u64, at: usize, text: &[u8]) -> usize
+    requires { ⌜ (at ≤ 64) × (length (now text) ≤ 65536) ⌝ }
+    ensures { λ r. ⌜ r ≤ 65536 ⌝ }
+{
+    let mid = bits::write::push(out, 0, v, at);
+    let last = 0 < at && v % 2 == 1;
+    bits::write::push_text7(out, mid, last, text) / 8
+}
+
+// take AT N HEX VALUE: the number of N bits at AT
+fn take(line: &[u8]) -> Outcome {
+    let mut v = [0u64; 2];
+    if !numbers(line, 5, &mut v) {
+        return Outcome::Bad;
+    }
+    if 64 < v[1] {
+        return Outcome::Bad;
+    }
+    let mut data = io::large_buffer();
+    let read = hex(field(line, 3), &mut data);
+    if !read.good {
+        return Outcome::Bad;
+    }
+    let n = read.n;
+    let ours = bits::read::take(&data[0..n], v[0] as usize, v[1] as usize);
+    same_taken(field(line, 4), ours)
+}
+
+// digits AT N HEX VALUE: the number whose decimal digits are the N bits at AT
+fn digits(line: &[u8]) -> Outcome {
+    let mut v = [0u64; 2];
+    if !numbers(line, 5, &mut v) {
+        return Outcome::Bad;
+    }
+    if 16 < v[1] {
+        return Outcome::Bad;
+    }
+    let mut data = io::large_buffer();
+    let read = hex(field(line, 3), &mut data);
+    if !read.good {
+        return Outcome::Bad;
+    }
+    let n = read.n;
+    let ours = bits::read::text(&data[0..n], v[0] as usize, v[1] as usize);
+    same_taken(field(line, 4), ours)
+}
+
+// text7 AT HEX TEXT: the text of seven bits a byte from AT on
+fn text7(line: &[u8]) -> Outcome {
+    let mut v = [0u64; 1];
+    if !numbers(line, 4, &mut v) {
+        return Outcome::Bad;
+    }
+    let mut data = io::large_buffer();
+    let read = hex(field(line, 2), &mut data);
+    if !read.good {
+        return Outcome::Bad;
+    }
+    let n = read.n;
+    let mut out = io::large_buffer();
+    let ours = bits::read::text7(&data[0..n], v[0] as usize, &mut out, 0);
+    same_got(field(line, 3), &out, ours)
+}
+
+// val HEX NUMBER
+fn val(line: &[u8]) -> Outcome {
+    if fields(line) != 3 {
+        return Outcome::Bad;
+    }
+    let mut data = io::large_buffer();
+    let read = hex(field(line, 1), &mut data);
+    if !read.good {
+        return Outcome::Bad;
+    }
+    let n = read.n;
+    same_number(field(line, 2), bits::vb_val(&data[0..n]))
+}
