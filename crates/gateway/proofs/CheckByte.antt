@@ -27,17 +27,19 @@ module _ (mask : ℕ) (top : Top mask) where
   mask-is : mask ≡ 256 - 2 ^ (top .free)
   mask-is = top .is ∙ ap (λ (n : ℕ). 2 ^ n - 2 ^ (top .free)) (top .whole)
 
+  free-few : 2 ^ (top .free) ≤ 2 ^ 7
+  free-few =
+      let h : top .free ≤ 7 = omega (arith, top .whole, top .some-bits) in
+      pow-mono h
+
   -- the largest count leaves the check bits free
   pub most-is : mostOf mask ≡ 2 ^ (top .free) + 1
   unfolding mostOf
   most-is =
-      let p : 2 ^ (top .free) ≤ 2 ^ 7 = pow-mono (omega (arith, top .whole, top .some-bits)) in
-      omega (arith, mask-is, pow-pos (top .free))
+      omega (arith, mask-is, pow-pos (top .free), free-few)
 
   pub most-few : mostOf mask ≤ 129
-  most-few =
-      let p : 2 ^ (top .free) ≤ 2 ^ 7 = pow-mono (omega (arith, top .whole, top .some-bits)) in
-      omega (arith, most-is)
+  most-few = omega (arith, most-is, free-few)
 
   pub check-passes : (message : List ℕ) (count : ℕ) → count ≤ mostOf mask → 2 ≤ count → crcBits message mask ≡ bitAnd (checkOf message mask count) mask
   unfolding checkOf crcBits

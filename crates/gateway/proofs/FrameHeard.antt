@@ -38,7 +38,7 @@ last-zeros i b (suc n) = last-zeros (i + 1) b n
 last-fill : (i b n marker : ℕ) → (marker ≡ 0x14 → ⊥) → lastFrom i b (fillOf n marker) ≡ b
 unfolding lastFrom fillOf pick
 last-fill i b zero marker h = refl
-last-fill i b (suc n) marker h = rw (ne-eqb marker 0x14 h) (last-zeros (i + 1) b n)
+last-fill i b (suc n) marker h = rw (ne-eqb marker 0x14 h, lastFrom) (last-zeros (i + 1) b n)
 
 -- behind the fragment, its terminator is the last
 last-body : (fragment : List ℕ) (n marker : ℕ) → (marker ≡ 0x14 → ⊥) → lastFrom 0 0 (fragment ++ (terminator ∷ fillOf n marker)) ≡ length fragment

@@ -1,3 +1,7 @@
+pub mod CheckByte
+pub mod Deliver
 pub mod Forget
+pub mod FrameHeard
+pub mod Messages
 pub mod Sim
 pub mod View

@@ -77,7 +77,7 @@ idleAnswer reset = none
 
 -- "Frames of a wrong length and other idle calls may stand anywhere between."
 pub data Mixed : List Line → List Line → Type 0 where
-  none : Mixed [] []
+  finished : Mixed [] []
   still : {ps ls : List Line} (c : Call) → idle c ≡ true → Mixed ps ls → Mixed ps (line c (idleAnswer c) ∷ ls)
   next : {ps ls : List Line} (l : Line) → Mixed ps ls → Mixed (l ∷ ps) (l ∷ ls)
 
