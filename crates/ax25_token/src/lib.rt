@@ -1,0 +1,1 @@
+// Call tokens: the definitions and their laws.
