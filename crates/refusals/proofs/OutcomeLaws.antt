@@ -1,6 +1,6 @@
 -- The cases of an answer with a lent output.
 -- Assumes nothing.
-use mathlib.Core.Path.{_≡_, refl}
+use mathlib.Core.Path.{_≡_, refl, sym}
 use mathlib.Core.List.{List}
 use Prim.Native.Nat.{ℕ, _≤_, _<_}
 use lib.ListN.{length}
@@ -8,11 +8,19 @@ use lib.Seq.{sets}
 use borrow.Author.Tests.{lt-ltb, le-ltb}
 use Rattle.laws.specs.Pick.{pick}
 use Rattle.laws.specs.Wrote.{Wrote}
-use Rattle.refusals.specs.Outcome.{refused, answer, left, into}
+use Rattle.refusals.specs.Outcome.{Outcome, refused, answer, Left, left, into}
 
 pub into-refused : (n : ℕ) (out : List ℕ) → into (refused n) out ≡ left (refused n) out
 unfolding into
 into-refused n out = refl
+
+-- what is left by an outcome is left by one that is the same
+pub into-is : {s t : Outcome (List ℕ)} (out : List ℕ) {x : Left} → s ≡ t → x ≡ into s out → x ≡ into t out
+into-is out e h = rw (← e) h
+
+-- a refusal leaves the output as it was
+pub into-refuses : {s : Outcome (List ℕ)} (out : List ℕ) (n : ℕ) → s ≡ refused n → left (refused n) out ≡ into s out
+into-refuses out n e = into-is out (sym e) (sym (into-refused n out))
 
 module _ (v out : List ℕ) where
   pub into-short : length out < length v → into (answer v) out ≡ left (refused 6) out

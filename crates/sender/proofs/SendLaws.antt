@@ -11,8 +11,7 @@ use borrow.Author.Tests.{eq-eqb, ne-eqb, lt-ltb, le-ltb, le-leb, lt-leb}
 use Rattle.laws.specs.Pick.{pick}
 use Rattle.laws.proofs.Cases.{by-test, by-le}
 use Rattle.refusals.specs.Limits.{fieldOk, maskOk}
-use Rattle.refusals.specs.Outcome.{Outcome, refused, answer, accepted, Left, left, into}
-use Rattle.refusals.proofs.OutcomeLaws.{into-refused}
+use Rattle.refusals.specs.Outcome.{refused, answer, accepted}
 use Rattle.sender.specs.Send.{countOf, countFor, checkOf, leadOf, fragmentOf, mostOf, sendOf}
 use Rattle.sender.proofs.CountLaws.{count-one}
 
@@ -86,14 +85,6 @@ pub record Sendable (message : List ℕ) (field mask : ℕ) : Type 0 where
   pub short : length message ≤ 5000
   pub first-low : getD message 0 0 < 128
   pub room : countOf (length message) field ≤ mostOf mask
-
--- what is left by an outcome is left by one that is the same
-pub into-is : {s t : Outcome (List ℕ)} (out : List ℕ) {x : Left} → s ≡ t → x ≡ into s out → x ≡ into t out
-into-is out e h = rw (← e) h
-
--- a refusal leaves the output as it was
-pub into-refuses : {s : Outcome (List ℕ)} (out : List ℕ) (n : ℕ) → s ≡ refused n → left (refused n) out ≡ into s out
-into-refuses out n e = into-is out (sym e) (sym (into-refused n out))
 
 module _ (message : List ℕ) (field mask k : ℕ) where
   pub send-field : fieldOk field ≡ false → sendOf message field mask k ≡ refused 8

@@ -7,7 +7,8 @@ use mathlib.Core.Path.{_≡_, sym, _∙_}
 use denote.Ref.{now}
 use borrow.Author.Tests.{not-true, not-false}
 use Rattle.refusals.specs.Limits.{fieldOk, maskOk}
-use Rattle.sender.proofs.SendLaws.{into-refuses, send-field, send-mask, send-empty, send-long, send-high}
+use Rattle.refusals.proofs.OutcomeLaws.{into-refuses}
+use Rattle.sender.proofs.SendLaws.{send-field, send-mask, send-empty, send-long, send-high}
 use Rattle.sender.proofs.fragment.Statement.{statement}
 use Rattle.sender.proofs.fragment.Tie as tie
 

@@ -9,7 +9,8 @@ use denote.Ref.{now}
 use Rattle.refusals.specs.Outcome.{answer}
 use Rattle.refusals.proofs.LimitLaws.{field-low, field-high}
 use Rattle.sender.specs.Send.{countOf, mostOf}
-use Rattle.sender.proofs.SendLaws.{Sendable, into-is, into-refuses, fragment-whole, send-crowded, send-past, send-answer}
+use Rattle.refusals.proofs.OutcomeLaws.{into-is, into-refuses}
+use Rattle.sender.proofs.SendLaws.{Sendable, fragment-whole, send-crowded, send-past, send-answer}
 use Rattle.sender.proofs.numbered.Statement.{statement}
 use Rattle.sender.proofs.numbered.Tie as tie
 

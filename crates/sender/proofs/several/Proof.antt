@@ -9,8 +9,9 @@ use lib.ListN.{length, getD, take, drop}
 use denote.Ref.{now}
 use Rattle.refusals.specs.Outcome.{answer}
 use Rattle.sender.specs.Send.{countOf, checkOf, leadOf, fragmentOf}
+use Rattle.refusals.proofs.OutcomeLaws.{into-is}
 use Rattle.sender.proofs.CountLaws.{count-two, starts-within}
-use Rattle.sender.proofs.SendLaws.{into-is, fragment-first, fragment-later}
+use Rattle.sender.proofs.SendLaws.{fragment-first, fragment-later}
 use Rattle.sender.proofs.several.Statement.{statement}
 use Rattle.sender.proofs.several.Tie as tie
 
