@@ -1,0 +1,3 @@
+pub mod Decode
+pub mod Encode
+pub mod Plain

@@ -1,0 +1,1 @@
+// A frame coded and decoded: the definitions and their laws.

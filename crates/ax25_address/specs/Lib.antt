@@ -1,0 +1,4 @@
+pub mod Address
+pub mod Classify
+pub mod Parse
+pub mod Types

@@ -1,0 +1,1 @@
+// Address fields, and what a frame is: the definitions and their laws.

@@ -1,0 +1,1 @@
+// The bodies of APRS frames: the definitions and their laws.

@@ -1,0 +1,1 @@
+// Data coded and messages decoded: the definitions and their laws.
