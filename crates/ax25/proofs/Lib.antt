@@ -1,1 +1,2 @@
+pub mod HeadBack
 pub mod PlainLaws
