@@ -1,4 +1,5 @@
 pub mod Cases
 pub mod CleanLaws
+pub mod Examples
 pub mod Sizes
 pub mod TokenBack
