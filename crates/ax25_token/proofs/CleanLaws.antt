@@ -18,6 +18,7 @@ use Rattle.bits.specs.Val.{stops, nextVal, valFrom, valOf}
 use Rattle.ax25_token.specs.Tables.{callAlphabet, alphaOf}
 use Rattle.ax25_token.specs.Token.{hyphened, baseOf, behind, twoDigits, decimal, suffix}
 use Rattle.ax25_token.specs.Clean.{cleanLetter, cleanLetters, callText}
+use Rattle.ax25_token.proofs.Cases.{suffix-none}
 
 -- ---- one letter
 
@@ -129,13 +130,9 @@ hyphen-clean (x ∷ c) t e = rw (clean-head x c e .no-hyphen, hyphen-clean c t (
 
 -- ---- the text of a call
 
-pub suffix-none : suffix 0 ≡ []
-unfolding suffix pick
-suffix-none = refl
-
 pub call-plain : (letters : List ℕ) → callText letters 0 ≡ letters
 unfolding callText
-call-plain letters = rw suffix-none (append-nil letters)
+call-plain letters = rw (suffix-none 0 refl) (append-nil letters)
 
 suffix-base : (s : ℕ) → baseOf (suffix s) ≡ []
 unfolding suffix baseOf pick

@@ -19,19 +19,7 @@ use Rattle.bits.specs.Val.{valOf}
 use Rattle.ax25_token.specs.Tables.{symOf, alphaOf, Pair, Fixed, Numbered, wideTokens, wideRow, pairRows, pairTexts, fixedRows, numberedRows}
 use Rattle.ax25_token.specs.Token.{hyphened, baseOf, behind, numberAt, pairBits, pairsBits, fixedBits, takes, numberedBits, spell, ending, plainAp, apBits, spelledBits, orElse, tokenBits}
 use Rattle.ax25_token.proofs.Cases.{ending-all, ending-short}
-
--- ---- what stands before a hyphen
-
-pub base-short : (c : List ℕ) → length (baseOf c) ≤ length c
-unfolding baseOf pick
-base-short [] = omega arith
-base-short (x ∷ c) = by-test (eqb x 45) (λ e. rw e (omega arith)) (λ e. rw e (omega (arith, base-short c)))
-
--- all of a text with no hyphen
-pub base-plain : (c : List ℕ) → hyphened c ≡ false → baseOf c ≡ c
-unfolding baseOf hyphened pick
-base-plain [] e = refl
-base-plain (x ∷ c) e = rw (or-left (eqb x 45) (hyphened c) e, base-plain c (or-right (eqb x 45) (hyphened c) e))
+use Rattle.ax25_token.proofs.Hyphen.{base-short, base-plain}
 
 -- ---- bits, if any, are at most n
 
