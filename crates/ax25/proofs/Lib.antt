@@ -1,2 +1,3 @@
+pub mod FrameBack
 pub mod HeadBack
 pub mod PlainLaws

@@ -27,7 +27,7 @@ use Rattle.ax25.specs.Plain.{Address, AllClean, twice, addressBytes, add
 
 -- ---- a number's last bit
 
-odd-yes : (n : ℕ) → n % 2 ≡ 1 → odd n ≡ true
+pub odd-yes : (n : ℕ) → n % 2 ≡ 1 → odd n ≡ true
 unfolding odd
 odd-yes n e = eq-eqb (n % 2) 1 e
 

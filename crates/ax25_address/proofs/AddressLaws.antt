@@ -1,7 +1,7 @@
 -- A clean call comes back through its address field.
 -- Assumes nothing.
 use mathlib.Core.Path.{_≡_, refl, ap, ap₂, _∙_}
-use mathlib.Core.Bool.{Bool, true, false, _||_, not}
+use mathlib.Core.Bool.{Bool, true, false, _&&_, _||_, not}
 use mathlib.Core.List.{List, [], _∷_, _++_, map}
 use mathlib.Core.Logic.{⊎-elim}
 use Prim.Native.Nat.{ℕ, zero, suc, _+_, _-_, _*_, _/_, _%_, _≤_, _<_}
@@ -13,8 +13,8 @@ use lib.Seq.{take-at, getD-at, length-take-le, take-append-add}
 use lib.Dec.{eqb}
 use borrow.Author.Tests.{eqb-true, not-true}
 use Rattle.laws.specs.Pick.{pick}
-use Rattle.laws.specs.Text.{ascii, between, isDigit, upper, same, trimFront, keepOr, trimEnd, trim, filled}
-use Rattle.laws.proofs.Cases.{or-back}
+use Rattle.laws.specs.Text.{ascii, between, isDigit, upper, same, starts, trimFront, keepOr, trimEnd, trim, filled}
+use Rattle.laws.proofs.Cases.{by-test, or-back}
 use Rattle.laws.proofs.TextLaws.{below, at-each, same-eq}
 use Rattle.bits.specs.Val.{stops, nextVal, valFrom, valOf}
 use Rattle.ax25_token.specs.Clean.{cleanLetter, cleanLetters, callText, CleanCall}
@@ -156,3 +156,16 @@ unfolding callText suffixTest
 upper-call letters ssid h =
     upper-append letters (suffix ssid)
     ∙ ap₂ (λ (a b : List ℕ). a ++ b) (upper-clean letters (h .clean)) (same-eq (map upper (suffix ssid)) (suffix ssid) (at-each suffixTest 16 all-suffixes ssid (h .small)))
+
+-- ---- what a call starts with
+
+-- no capital starts a suffix
+suffix-first : (x : ℕ) (w : List ℕ) (ssid : ℕ) → eqb x 45 ≡ false → starts (x ∷ w) (suffix ssid) ≡ false
+unfolding starts suffix pick
+suffix-first x w ssid e = by-test (eqb ssid 0) (λ t. rw t) (λ t. rw (t, e))
+
+pub starts-call : (letters : List ℕ) (ssid : ℕ) → starts (ascii "AP") (callText letters ssid) ≡ starts (ascii "AP") letters
+unfolding callText starts
+starts-call [] ssid = suffix-first 65 (80 ∷ []) ssid refl
+starts-call (x ∷ []) ssid = ap (λ (t : Bool). eqb 65 x && t) (suffix-first 80 [] ssid refl)
+starts-call (x ∷ y ∷ t) ssid = refl
