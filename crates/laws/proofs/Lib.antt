@@ -3,4 +3,5 @@ pub mod ByteLaws
 pub mod Cases
 pub mod DigitLaws
 pub mod ListLaws
+pub mod TextLaws
 pub mod WroteLaws
