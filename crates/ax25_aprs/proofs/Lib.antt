@@ -1,3 +1,4 @@
+pub mod PlaceBack
 pub mod TextBack
 pub mod TextLaws
 pub mod WordLaws
