@@ -1,2 +1,4 @@
 pub mod Cases
 pub mod CleanLaws
+pub mod Sizes
+pub mod TokenBack
