@@ -166,12 +166,16 @@ pub record PlaceBack (s : Place) : Type 0 where
   pub coded : List Bool
   pub is-coded : latlonBits (placeBytes s) ≡ answer coded
   pub is-read : (z : ℕ) → readLatlon (coded ++ replicate z false) ≡ some (placeBytes s)
+  pub long : 19 ≤ length (placeBytes s)
 
 module _ (s : Place) (plain : PlainPlace s) where
+  stands : Stands s (placeBytes s)
+  stands = place-stands s (plain .lat-digits .0) (plain .lon-digits .0)
+
   place-image : placeBits (placeBytes s) ≡ image (valOf (s .lat)) (s .north) (tableBits (s .table)) (valOf (s .lon)) (s .west) (s .symbol)
   unfolding placeBits latBits lonBits image
   place-image =
-      let f = place-stands s (plain .lat-digits .0) (plain .lon-digits .0) in
+      let f = stands in
       rw (f .lat, f .north, f .table, f .lon, f .west, f .symbol, side-bits 0x4E 0x53 (s .north) (λ e. omega arith), side-bits 0x57 0x45 (s .west) (λ e. omega arith), top-bits 20 (valOf (s .lat)) (omega arith) (six-lt (s .lat) (plain .lat-digits)), top-bits 21 (valOf (s .lon)) (omega arith) (omega (arith, plain .lon-small)), top-bits 7 (s .symbol) (omega arith) (omega (arith, plain .symbol-small)))
 
   text : Back true (s .comment)
@@ -179,9 +183,7 @@ module _ (s : Place) (plain : PlainPlace s) where
 
   place-coded : latlonBits (placeBytes s) ≡ answer (placeBits (placeBytes s) ++ text .coded)
   unfolding latlonBits pick
-  place-coded =
-      let f = place-stands s (plain .lat-digits .0) (plain .lon-digits .0) in
-      rw (le-ltb (length (placeBytes s)) 19 (f .size), f .comment, text .is-coded)
+  place-coded = rw (le-ltb (length (placeBytes s)) 19 (stands .size), stands .comment, text .is-coded)
 
   place-read : (z : ℕ) → readLatlon ((placeBits (placeBytes s) ++ text .coded) ++ replicate z false) ≡ some (placeBytes s)
   unfolding readLatlon pick latText lonText placeBytes
@@ -200,4 +202,4 @@ module _ (s : Place) (plain : PlainPlace s) where
       (rw (append-assoc (dotted 5 (s .lon)) y (s .comment), append-assoc (dotted 4 (s .lat)) x (dotted 5 (s .lon) ++ (y ++ s .comment)))))
 
   pub place-back : PlaceBack s
-  place-back = record { coded = placeBits (placeBytes s) ++ text .coded; is-coded = place-coded; is-read = place-read }
+  place-back = record { coded = placeBits (placeBytes s) ++ text .coded; is-coded = place-coded; is-read = place-read; long = stands .size }
