@@ -4,4 +4,5 @@ pub mod Cases
 pub mod DigitLaws
 pub mod ListLaws
 pub mod TextLaws
+pub mod TrimLaws
 pub mod WroteLaws

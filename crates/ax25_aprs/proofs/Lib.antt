@@ -1,0 +1,7 @@
+pub mod BodyBack
+pub mod CallLaws
+pub mod PlaceBack
+pub mod Sizes
+pub mod TextBack
+pub mod TextLaws
+pub mod WordLaws
