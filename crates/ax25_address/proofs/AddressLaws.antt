@@ -139,7 +139,7 @@ module _ (l : ℕ) (letters : List ℕ) (ssid : ℕ) (h : CleanCall letters ssid
 
 -- ---- capitals
 
-upper-append : (s t : List ℕ) → map upper (s ++ t) ≡ map upper s ++ map upper t
+pub upper-append : (s t : List ℕ) → map upper (s ++ t) ≡ map upper s ++ map upper t
 upper-append [] t = refl
 upper-append (x ∷ s) t = ap (λ (l : List ℕ). upper x ∷ l) (upper-append s t)
 
@@ -150,12 +150,16 @@ all-suffixes : below suffixTest 16 ≡ true
 unfolding below suffixTest same suffix decimal twoDigits upper between pick
 all-suffixes = refl
 
+pub upper-suffix : (ssid : ℕ) → ssid < 16 → map upper (suffix ssid) ≡ suffix ssid
+unfolding suffixTest
+upper-suffix ssid h = same-eq (map upper (suffix ssid)) (suffix ssid) (at-each suffixTest 16 all-suffixes ssid h)
+
 -- a clean call's text is in capitals
 pub upper-call : (letters : List ℕ) (ssid : ℕ) → CleanCall letters ssid → map upper (callText letters ssid) ≡ callText letters ssid
-unfolding callText suffixTest
+unfolding callText
 upper-call letters ssid h =
     upper-append letters (suffix ssid)
-    ∙ ap₂ (λ (a b : List ℕ). a ++ b) (upper-clean letters (h .clean)) (same-eq (map upper (suffix ssid)) (suffix ssid) (at-each suffixTest 16 all-suffixes ssid (h .small)))
+    ∙ ap₂ (λ (a b : List ℕ). a ++ b) (upper-clean letters (h .clean)) (upper-suffix ssid (h .small))
 
 -- ---- what a call starts with
 

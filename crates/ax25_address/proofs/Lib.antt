@@ -1,2 +1,3 @@
 pub mod AddressLaws
 pub mod ParseLaws
+pub mod SizeLaws

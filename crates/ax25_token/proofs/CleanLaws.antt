@@ -134,7 +134,7 @@ pub call-plain : (letters : List ℕ) → callText letters 0 ≡ letters
 unfolding callText
 call-plain letters = rw (suffix-none 0 refl) (append-nil letters)
 
-suffix-base : (s : ℕ) → baseOf (suffix s) ≡ []
+pub suffix-base : (s : ℕ) → baseOf (suffix s) ≡ []
 unfolding suffix baseOf pick
 suffix-base s = by-test (eqb s 0) (λ e. rw e) (λ e. rw e)
 

@@ -2,10 +2,11 @@
 -- Assumes nothing.
 use mathlib.Core.Path.{_≡_, refl, sym, _∙_}
 use mathlib.Core.Bool.{Bool, true, false, _&&_, _||_}
+use mathlib.Core.Option.{Option, none, some, Option·none-ne-some}
 use Prim.Native.Nat.{ℕ, _≤_, _<_}
 use lib.Dec.{leb, eqb}
 use borrow.Author.Tests.{leb-true, leb-false, eqb-true, eqb-false}
-use Rattle.laws.specs.Pick.{pick}
+use Rattle.laws.specs.Pick.{pick, _>>=_}
 
 module _ {ℓ} {X : Type ℓ} where
   pub pick-true : {t : Bool} (x y : X) → t ≡ true → pick t x y ≡ x
@@ -48,3 +49,8 @@ or-right false b e = e
 pub or-back : (a b : Bool) → (a || b) ≡ true → b ≡ false → a ≡ true
 or-back true b e f = refl
 or-back false b e f = sym f ∙ e
+
+-- a `do` that gives a value had one to go on with
+pub from-some : {A B : Type 0} {P : Type 0} (o : Option A) (f : A → Option B) (b : B) → (o >>= f) ≡ some b → ((a : A) → o ≡ some a → f a ≡ some b → P) → P
+from-some none f b e k = absurd (Option·none-ne-some b e)
+from-some (some a) f b e k = k a refl e

@@ -1,0 +1,118 @@
+-- The sizes of what a frame is parsed into.
+-- Assumes nothing.
+use mathlib.Core.Path.{_≡_, refl, sym, ap, _∙_}
+use mathlib.Core.Bool.{Bool, true, false}
+use mathlib.Core.List.{List, [], _∷_, _++_, map}
+use mathlib.Core.Option.{Option, none, some, Option·none-ne-some, Option·some-injective}
+use Prim.Native.Nat.{ℕ, zero, suc, _+_, _-_, _*_, _/_, _%_, _≤_, _<_}
+use native.Mathlib.Nat.{add-mul}
+use native.Mathlib.Omega.{arith}
+use lib.ListN.{length, take, drop, getD, length-append, length-map, length-take, length-drop}
+use lib.Dec.{leb, eqb}
+use borrow.Author.Tests.{leb-true}
+use Rattle.laws.specs.Bits.{odd}
+use Rattle.laws.specs.Pick.{pick, _>>=_}
+use Rattle.laws.specs.Text.{upper, trim}
+use Rattle.laws.proofs.Cases.{by-test, from-some}
+use Rattle.laws.proofs.TrimLaws.{trim-le}
+use Rattle.ax25_token.specs.Token.{baseOf, suffix}
+use Rattle.ax25_token.proofs.CleanLaws.{suffix-base}
+use Rattle.ax25_address.specs.Address.{white, half, addrCall}
+use Rattle.ax25_address.specs.Parse.{splitOff, Parsed, digiFields, parseOf}
+use Rattle.ax25_address.proofs.AddressLaws.{upper-append, upper-suffix}
+
+-- ---- the letters of a parsed call
+
+base-append : (s t : List ℕ) → length (baseOf (s ++ t)) ≤ length s + length (baseOf t)
+unfolding baseOf pick
+base-append [] t = omega arith
+base-append (x ∷ s) t = by-test (eqb x 45) (λ e. rw e (omega arith)) (λ e. rw e (omega (arith, base-append s t)))
+
+base-le : (s : List ℕ) (k : ℕ) → length (baseOf (s ++ suffix k)) ≤ length s
+base-le s k = omega (arith, base-append s (suffix k), ap length (suffix-base k))
+
+module _ (l : ℕ) (a : List ℕ) where
+  abbrev letters : List ℕ
+  letters = trim white (map half (take l a))
+
+  letters-le : length letters ≤ l
+  letters-le = omega (arith, trim-le white (map half (take l a)), length-map (take l a) half, length-take l a)
+
+  pub addr-base : length (baseOf (addrCall l a)) ≤ l
+  unfolding addrCall
+  addr-base = omega (arith, base-le letters (getD a l 0 / 2 % 16), letters-le)
+
+  pub upper-base : length (baseOf (map upper (addrCall l a))) ≤ l
+  unfolding addrCall
+  upper-base =
+      let k = getD a l 0 / 2 % 16 in
+      rw (upper-append letters (suffix k), upper-suffix k (omega arith))
+      (omega (arith, base-le (map upper letters) k, length-map letters upper, letters-le))
+
+-- ---- the lengths of the parts
+
+-- what is split off has its length
+split-size : {A : Type 0} (n : ℕ) (d : List A) (p : List A × List A) → splitOff n d ≡ some p → (length (p .0) ≡ n) × (length d ≡ n + length (p .1))
+unfolding splitOff pick
+split-size n d p e =
+    by-test (leb n (length d))
+    (λ t.
+    let h = leb-true n (length d) t in
+    let q : (take n d, drop n d) ≡ p = Option·some-injective (take n d, drop n d) p (rw t at e) in
+    rw (← q) (omega (arith, h, length-take n d), omega (arith, h, length-drop n d)))
+    (λ t. absurd (Option·none-ne-some p (rw t at e)))
+
+-- further fields: at most k, of l + 1 bytes each
+digis-size : (l k b : ℕ) (d : List ℕ) (p : List (List ℕ) × List ℕ) → digiFields l k b d ≡ some p
+    → (length (p .0) ≤ k) × (length d ≡ length (p .0) * (l + 1) + length (p .1))
+unfolding digiFields pick
+digis-size l zero b d p e = rw (← Option·some-injective ([], d) p e) (omega arith, omega arith)
+digis-size l (suc k) b d p e =
+    by-test (odd b)
+    (λ t. rw (← Option·some-injective ([], d) p (rw t at e)) (omega arith, omega arith))
+    (λ t. from-some (splitOff (l + 1) d) _ p (rw t at e)
+    (λ q eq g. from-some (digiFields l k (getD (q .0) l 0) (q .1)) _ p g
+    (λ r er h.
+    let s = split-size (l + 1) d q eq in
+    let i = digis-size l k (getD (q .0) l 0) (q .1) r er in
+    rw (← Option·some-injective (q .0 ∷ r .0, r .1) p h) (omega (arith, i .0), omega (arith, i .1, s .1)))))
+
+-- the calls have at most l letters
+abbrev pub AllBase : ℕ → List (List ℕ) → Type 0
+AllBase l [] = Unit {0}
+AllBase l (c ∷ cs) = (length (baseOf c) ≤ l) × AllBase l cs
+
+all-base : (l : ℕ) (fs : List (List ℕ)) → AllBase l (map (addrCall l) fs)
+all-base l [] = tt
+all-base l (f ∷ fs) = (addr-base l f, all-base l fs)
+
+-- the parts of a frame of so many bytes
+pub record Sized (l : ℕ) (r : Parsed) (size : ℕ) : Type 0 where
+  pub dest-base : length (baseOf (r .dest)) ≤ l
+  pub src-base : length (baseOf (r .src)) ≤ l
+  pub digis-base : AllBase l (r .digis)
+  pub few : length (r .digis) ≤ 8
+  pub one-each : length (r .heard) ≡ length (r .digis)
+  pub total : size ≡ (length (r .digis) + 2) * (l + 1) + 2 + length (r .info)
+
+pub parse-size : (l : ℕ) (d : List ℕ) (r : Parsed) → parseOf l d ≡ some r → Sized l r (length d)
+unfolding parseOf
+parse-size l d r e =
+    from-some (splitOff (l + 1) d) _ r e
+    (λ p ep e₁. from-some (splitOff (l + 1) (p .1)) _ r e₁
+    (λ q eq e₂. from-some (digiFields l 8 (getD (q .0) l 0) (q .1)) _ r e₂
+    (λ v ev e₃. from-some (splitOff 2 (v .1)) _ r e₃
+    (λ w ew e₄.
+    let a = split-size (l + 1) d p ep in
+    let b = split-size (l + 1) (p .1) q eq in
+    let c = digis-size l 8 (getD (q .0) l 0) (q .1) v ev in
+    let z = split-size 2 (v .1) w ew in
+    rw (← Option·some-injective _ r e₄)
+    (record {
+      dest-base = upper-base l (p .0);
+      src-base = upper-base l (q .0);
+      digis-base = all-base l (v .0);
+      few = omega (arith, c .0, length-map (v .0) (addrCall l));
+      one-each = length-map (v .0) _ ∙ sym (length-map (v .0) (addrCall l));
+      total = rw (length-map (v .0) (addrCall l), add-mul (length (v .0)) 2 (l + 1)) (omega (arith, a .1, b .1, c .1, z .1));
+    })))))
