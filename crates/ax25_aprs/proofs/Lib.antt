@@ -1,5 +1,6 @@
 pub mod BodyBack
 pub mod CallLaws
+pub mod Examples
 pub mod PlaceBack
 pub mod Sizes
 pub mod TextBack
