@@ -45,6 +45,7 @@ module _ (k : ℕ) (a : List ℕ) (names digis : List (List ℕ)) where
         name = a;
         number = rw e (omega arith);
         small = omega arith;
+       
         is-named = refl;
         calls = sym (all-eq digis (aliasCalls a 1 (length digis)) e);
       }
@@ -69,28 +70,26 @@ aliased k (a ∷ names) digis h =
 
 -- ---- tokens and digipeaters
 
--- some bits for these calls, of so many bits at most, read back by `read` whatever follows
-record Written (written : Option (List Bool)) (most : ℕ) (read : List Bool → Option (List (List ℕ) × List Bool)) (calls : List (List ℕ)) : Type 0 where
+-- some bits for these calls, read back by `read` whatever follows
+record Written (written : Option (List Bool)) (read : List Bool → Option (List (List ℕ) × List Bool)) (calls : List (List ℕ)) : Type 0 where
   out : List Bool
   is : written ≡ some out
-  small : length out ≤ most
   back : (rest : List Bool) → read (out ++ rest) ≡ some (calls, rest)
 
-tokens-back : (v : List Address) → AllClean v → Written (tokensBits 6 (texts v)) (length v * 40) (readTokens 6 (length v)) (texts v)
+tokens-back : (v : List Address) → AllClean v → Written (tokensBits 6 (texts v)) (readTokens 6 (length v)) (texts v)
 unfolding tokensBits readTokens texts
-tokens-back [] ok = record { out = []; is = refl; small = omega arith; back = λ rest. refl }
+tokens-back [] ok = record { out = []; is = refl; back = λ rest. refl }
 tokens-back (a ∷ v) ok =
     let t = token-back (a .letters) (a .ssid) (ok .0) 6 (omega arith) in
     let r = tokens-back v (ok .1) in
     record {
       out = t .bits ++ r .out;
       is = rw (t .coded, r .is);
-      small = omega (arith, length-append (t .bits) (r .out), t .size, r .small);
       back = λ rest. rw (append-assoc (t .bits) (r .out) rest, t .read (r .out ++ rest), r .back rest);
     }
 
 alias-back : (c : List ℕ) (cs : List (List ℕ)) → 0 < aliasOf (c ∷ cs)
-    → Written (some (true ∷ bitsOf 3 (aliasOf (c ∷ cs)))) 4 (readAliased 6 (length (c ∷ cs))) (c ∷ cs)
+    → Written (some (true ∷ bitsOf 3 (aliasOf (c ∷ cs)))) (readAliased 6 (length (c ∷ cs))) (c ∷ cs)
 unfolding aliasOf readAliased readAlias aliases pick
 alias-back c cs h =
     let r = aliased 1 aliases (c ∷ cs) h in
@@ -99,46 +98,38 @@ alias-back c cs h =
     record {
       out = true ∷ bitsOf 3 k;
       is = refl;
-      small = omega (arith, length-bits 3 k);
       back = λ rest. rw (take-bits 3 k rest, i, r .is-named, r .calls);
     }
 
-digis-back : (ap : Bool) (v : List Address) → AllClean v → Written (digiBits 6 ap (texts v)) (length v * 40 + 4) (readDigis 6 ap (length v)) (texts v)
+digis-back : (ap : Bool) (v : List Address) → AllClean v → Written (digiBits 6 ap (texts v)) (readDigis 6 ap (length v)) (texts v)
 unfolding digiBits readDigis texts pick
-digis-back ap [] ok = record { out = []; is = refl; small = omega arith; back = λ rest. refl }
+digis-back ap [] ok = record { out = []; is = refl; back = λ rest. refl }
 digis-back ap (a ∷ v) ok = cases ap (ltb 0 (aliasOf (texts (a ∷ v)))) refl
   where
-    r : Written (tokensBits 6 (texts (a ∷ v))) (length (a ∷ v) * 40) (readTokens 6 (length (a ∷ v))) (texts (a ∷ v))
+    r : Written (tokensBits 6 (texts (a ∷ v))) (readTokens 6 (length (a ∷ v))) (texts (a ∷ v))
     r = tokens-back (a ∷ v) ok
 
-    cases : (x y : Bool) → ltb 0 (aliasOf (texts (a ∷ v))) ≡ y → Written (digiBits 6 x (texts (a ∷ v))) (length (a ∷ v) * 40 + 4) (readDigis 6 x (length (a ∷ v))) (texts (a ∷ v))
+    cases : (x y : Bool) → ltb 0 (aliasOf (texts (a ∷ v))) ≡ y → Written (digiBits 6 x (texts (a ∷ v))) (readDigis 6 x (length (a ∷ v))) (texts (a ∷ v))
     cases true true e =
         let q = alias-back (callText (a .letters) (a .ssid)) (texts v) (ltb-true 0 (aliasOf (texts (a ∷ v))) e) in
         record {
           out = q .out;
           is = rw e (q .is);
-          small = omega (arith, q .small);
           back = λ rest. rw length-texts at (q .back rest);
         }
     cases true false e =
         record {
           out = false ∷ r .out;
           is = rw (e, r .is);
-          small = omega (arith, r .small);
           back = λ rest. unfold readAliased in r .back rest;
         }
-    cases false y e = record { out = r .out; is = rw (r .is); small = omega (arith, r .small); back = r .back }
+    cases false y e = record { out = r .out; is = rw (r .is); back = r .back }
 
 -- ---- the head
 
 -- its type, where the width has room for it
 abbrev pub Fits : Bool → ℕ → Type 0
 Fits ap typ = (typ < 2 ^ typeWidth ap) × (known typ ≡ true)
-
-width-le : (ap : Bool) → typeWidth ap ≤ 3
-unfolding pick
-width-le true = omega arith
-width-le false = omega arith
 
 module _ (dest src : Address) (digis : List Address) (typ : ℕ) where
   abbrev to : List ℕ
@@ -150,11 +141,10 @@ module _ (dest src : Address) (digis : List Address) (typ : ℕ) where
   abbrev pub headOf : Head
   headOf = record { dest = to; src = from; digis = texts digis; heard = heards digis; typ = typ }
 
-  -- the bits of a head, at most 41 for each digipeater and 87, read back whatever follows
+  -- the bits of a head, read back whatever follows
   pub record HeadBack (r : Parsed) : Type 0 where
     pub out : List Bool
     pub is : headBits 6 r typ ≡ some out
-    pub small : length out ≤ length digis * 41 + 87
     pub back : (rest : List Bool) → readHead 6 (length digis) (out ++ rest) ≡ some (headOf, rest)
 
   pub head-back : (r : Parsed) → AllClean (dest ∷ src ∷ digis) → Fits (starts (ascii "AP") to) typ
@@ -169,8 +159,6 @@ module _ (dest src : Address) (digis : List Address) (typ : ℕ) where
       record {
         out = heards digis ++ (d .bits ++ (s .bits ++ (v .out ++ t)));
         is = rw (ed, es, ev, eh, d .coded, s .coded, v .is);
-        small =
-            omega (arith, length-append (heards digis) (d .bits ++ (s .bits ++ (v .out ++ t))), length-append (d .bits) (s .bits ++ (v .out ++ t)), length-append (s .bits) (v .out ++ t), length-append (v .out) t, length-heards digis, length-bits (typeWidth ap) typ, width-le ap, d .size, s .size, v .small);
         back = λ rest.
             rw (append-assoc (heards digis) (d .bits ++ (s .bits ++ (v .out ++ t))) rest, append-assoc (d .bits) (s .bits ++ (v .out ++ t)) rest, append-assoc (s .bits) (v .out ++ t) rest, append-assoc (v .out) t rest, split-off (length digis) (heards digis) (d .bits ++ (s .bits ++ (v .out ++ (t ++ rest)))) (length-heards digis), d .read (s .bits ++ (v .out ++ (t ++ rest))), s .read (v .out ++ (t ++ rest)), v .back (t ++ rest), take-bits (typeWidth ap) typ rest, mod-eq-of-lt (fit .0), fit .1);
       }

@@ -98,23 +98,23 @@ AtMost n o = (b : List Bool) → o ≡ answer b → length b ≤ n
 refused-most : (n k : ℕ) → AtMost n (refused k)
 refused-most n k b e = let z : _≡_ {A = ℕ} 0 1 = cc in absurd (omega arith)
 
-answer-most : (n : ℕ) (a : List Bool) → length a ≤ n → AtMost n (answer a)
+pub answer-most : (n : ℕ) (a : List Bool) → length a ≤ n → AtMost n (answer a)
 answer-most n a h b e = let q : a ≡ b = cc in rw (← q) h
 
-le-most : (m n : ℕ) (o : Outcome (List Bool)) → m ≤ n → AtMost m o → AtMost n o
+pub le-most : (m n : ℕ) (o : Outcome (List Bool)) → m ≤ n → AtMost m o → AtMost n o
 le-most m n o h f b e = omega (arith, f b e)
 
-pick-most : (n : ℕ) (t : Bool) (o q : Outcome (List Bool)) → (t ≡ true → AtMost n o) → (t ≡ false → AtMost n q) → AtMost n (pick t o q)
+pub pick-most : (n : ℕ) (t : Bool) (o q : Outcome (List Bool)) → (t ≡ true → AtMost n o) → (t ≡ false → AtMost n q) → AtMost n (pick t o q)
 unfolding pick
 pick-most n true o q f g = f refl
 pick-most n false o q f g = g refl
 
-then-most : (m n : ℕ) (o q : Outcome (List Bool)) → AtMost m o → AtMost n q → AtMost (m + n) (o then q)
+pub then-most : (m n : ℕ) (o q : Outcome (List Bool)) → AtMost m o → AtMost n q → AtMost (m + n) (o then q)
 then-most m n (refused k) q f g = refused-most (m + n) k
 then-most m n (answer a) (refused k) f g = refused-most (m + n) k
 then-most m n (answer a) (answer c) f g = answer-most (m + n) (a ++ c) (omega (arith, length-append a c, f a refl, g c refl))
 
-or-most : (n k : ℕ) (o : Option (List Bool)) → ((b : List Bool) → o ≡ some b → length b ≤ n) → AtMost n (orRefused k o)
+pub or-most : (n k : ℕ) (o : Option (List Bool)) → ((b : List Bool) → o ≡ some b → length b ≤ n) → AtMost n (orRefused k o)
 or-most n k none f = refused-most n k
 or-most n k (some a) f = answer-most n a (f a refl)
 

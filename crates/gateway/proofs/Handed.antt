@@ -46,10 +46,10 @@ module _ (m : ℕ) (x : Sending) where
   handed-lines (suc (suc n)) k after h = rw (ne-eqb (suc n) 0 (λ e. omega arith)) (handed-lines (suc n) (suc k) after (omega arith))
 
 handed-idle : (c : Call) (rest : List (Option Heard)) → handed (idleAnswer c ∷ rest) ≡ handed rest
+unfolding pick
 handed-idle (push f k) rest = cases (fieldOk k)
   where
     cases : (o : Bool) → handed (some (pick o dropped (refused 8)) ∷ rest) ≡ handed rest
-    unfolding pick
     cases true = refl
     cases false = refl
 handed-idle (join f n) rest = refl
@@ -87,10 +87,10 @@ answer-same e = cc
 module _ {message : List ℕ} (c : CodedFrom message) where
   -- what is coded is not too long
   original-short : length (c .original) ≤ 4999
+  unfolding codeOf pick
   original-short = by-le (length (c .original)) 4999 (λ l. l) (λ l. absurd (too-long l (c .codable) (c .coded)))
     where
       too-long : 4999 < length (c .original) → Codable (c .command) (c .original) → codeOf (c .command) (c .original) ≡ answer (record { bytes = message; typ = c .typ }) → ⊥
-      unfolding codeOf pick
       too-long l (generic b) e = refused-not (rw (lt-ltb 4999 (length (c .original)) l) at e)
       too-long l (plain f) e = refused-not (rw (lt-ltb 4999 (length (c .original)) l) at e)
 
