@@ -4,22 +4,21 @@ use mathlib.Core.Path.{_≡_, refl, sym, ap, ap₂, _∙_}
 use mathlib.Core.Bool.{Bool, true, false}
 use mathlib.Core.List.{List, [], _∷_, _++_, map}
 use mathlib.Core.Option.{Option, none, some}
-use Prim.Native.Nat.{ℕ, zero, suc, _<_, _≤_}
+use Prim.Native.Nat.{ℕ, zero, suc, _≤_}
 use native.Mathlib.Nat.{not-suc-le-zero}
 use native.Mathlib.Omega.{arith}
 use lib.ListN.{length}
 use lib.Dec.{eqb}
-use borrow.Author.Tests.{ne-eqb, lt-ltb}
+use borrow.Author.Tests.{ne-eqb}
 use Rattle.laws.specs.Pick.{pick}
-use Rattle.laws.proofs.Cases.{by-le}
 use Rattle.refusals.specs.Limits.{fieldOk, maskOk}
 use Rattle.refusals.specs.Outcome.{Outcome, answer}
 use Rattle.sender.proofs.CountLaws.{count-pos}
 use Rattle.receiver.specs.Join.{Heard, refused, dropped, more, done}
 use Rattle.receiver.specs.New.{freshOf}
 use Rattle.ax25.specs.Encode.{Coded}
-use Rattle.kiss.specs.Codec.{Decoded, codeOf, decodeOf}
-use Rattle.kiss.specs.Back.{Codable, generic, plain, Back}
+use Rattle.kiss.specs.Codec.{Decoded, decodeOf}
+use Rattle.kiss.proofs.CodeBounds.{code-short}
 use Rattle.kiss.proofs.CodecBack.{codec-back}
 use Rattle.gateway.specs.Run.{Call, push, join, reset, state, leftBy, runOf}
 use Rattle.gateway.specs.Script.{Sending, countIn, AllAccepted, Line, calls, answers, linesFrom, linesOf, allLines, idleAnswer, Mixed, finished, still, next, settled}
@@ -85,18 +84,9 @@ answer-same : {A : Type 0} {a b : A} → answer a ≡ answer b → a ≡ b
 answer-same e = cc
 
 module _ {message : List ℕ} (c : CodedFrom message) where
-  -- what is coded is not too long
-  original-short : length (c .original) ≤ 4999
-  unfolding codeOf pick
-  original-short = by-le (length (c .original)) 4999 (λ l. l) (λ l. absurd (too-long l (c .codable) (c .coded)))
-    where
-      too-long : 4999 < length (c .original) → Codable (c .command) (c .original) → codeOf (c .command) (c .original) ≡ answer (record { bytes = message; typ = c .typ }) → ⊥
-      too-long l (generic b) e = refused-not (rw (lt-ltb 4999 (length (c .original)) l) at e)
-      too-long l (plain f) e = refused-not (rw (lt-ltb 4999 (length (c .original)) l) at e)
-
   decoded-back : decodeOf message ≡ answer (record { command = c .command; bytes = c .original })
   decoded-back =
-      let b = codec-back (c .codable) original-short in
+      let b = codec-back (c .codable) (code-short (c .command) (c .original) (record { bytes = message; typ = c .typ }) (c .coded)) in
       let e : message ≡ b .message = ap (λ (k : Coded). k .bytes) (answer-same (sym (c .coded) ∙ b .coded)) in
       ap decodeOf e ∙ b .back
 

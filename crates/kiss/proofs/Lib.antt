@@ -1,1 +1,3 @@
+pub mod CodeBounds
+pub mod CodecBack
 pub mod GenericBack
