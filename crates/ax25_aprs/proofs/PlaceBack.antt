@@ -15,6 +15,7 @@ use Rattle.laws.specs.Pick.{pick}
 use Rattle.laws.proofs.BitLaws.{value-bits}
 use Rattle.laws.proofs.Cases.{by-eq, by-le}
 use Rattle.bits.specs.Val.{valOf}
+use Rattle.bits.specs.Write.{topBits}
 use Rattle.bits.proofs.ValLaws.{val-lt}
 use Rattle.bits.proofs.WriteLaws.{top-bits}
 use Rattle.refusals.specs.Outcome.{answer}
@@ -84,6 +85,18 @@ place-stands s l m =
     }
 
 -- ---- the bits
+
+-- of the digits and bytes that stand there
+module _ (c ds : List ℕ) (x y : ℕ) where
+  lat-bits : take 4 c ++ take 2 (drop 5 c) ≡ ds → getD c 7 0 ≡ x → getD c 8 0 ≡ y
+      → latBits c ≡ topBits 20 (valOf ds) ++ (sideBits 0x4E 0x53 x ++ tableBits y)
+  unfolding latBits
+  lat-bits d e f = rw (← d, ← e, ← f)
+
+  lon-bits : take 5 (drop 9 c) ++ take 2 (drop 15 c) ≡ ds → getD c 17 0 ≡ x → getD c 18 0 ≡ y
+      → lonBits c ≡ topBits 21 (valOf ds) ++ (sideBits 0x57 0x45 x ++ topBits 7 y)
+  unfolding lonBits
+  lon-bits d e f = rw (← d, ← e, ← f)
 
 -- a latitude, a bit, the table's bits, a longitude, a bit, a symbol
 image : ℕ → Bool → List Bool → ℕ → Bool → ℕ → List Bool
@@ -173,10 +186,11 @@ module _ (s : Place) (plain : PlainPlace s) where
   stands = place-stands s (plain .lat-digits .0) (plain .lon-digits .0)
 
   place-image : placeBits (placeBytes s) ≡ image (valOf (s .lat)) (s .north) (tableBits (s .table)) (valOf (s .lon)) (s .west) (s .symbol)
-  unfolding placeBits latBits lonBits image
+  unfolding placeBits image
   place-image =
+      let c = placeBytes s in
       let f = stands in
-      rw (f .lat, f .north, f .table, f .lon, f .west, f .symbol, side-bits 0x4E 0x53 (s .north) (λ e. omega arith), side-bits 0x57 0x45 (s .west) (λ e. omega arith), top-bits 20 (valOf (s .lat)) (omega arith) (six-lt (s .lat) (plain .lat-digits)), top-bits 21 (valOf (s .lon)) (omega arith) (omega (arith, plain .lon-small)), top-bits 7 (s .symbol) (omega arith) (omega (arith, plain .symbol-small)))
+      rw (lat-bits c (s .lat) (side 0x4E 0x53 (s .north)) (s .table) (f .lat) (f .north) (f .table), lon-bits c (s .lon) (side 0x57 0x45 (s .west)) (s .symbol) (f .lon) (f .west) (f .symbol), side-bits 0x4E 0x53 (s .north) (λ e. omega arith), side-bits 0x57 0x45 (s .west) (λ e. omega arith), top-bits 20 (valOf (s .lat)) (omega arith) (six-lt (s .lat) (plain .lat-digits)), top-bits 21 (valOf (s .lon)) (omega arith) (omega (arith, plain .lon-small)), top-bits 7 (s .symbol) (omega arith) (omega (arith, plain .symbol-small)))
 
   text : Back true (s .comment)
   text = text-back true (s .comment) (plain .printable) (λ _. plain .altitudes)
