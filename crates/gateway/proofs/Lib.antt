@@ -1,5 +1,6 @@
 pub mod CheckByte
 pub mod Deliver
+pub mod Edges
 pub mod Forget
 pub mod FrameHeard
 pub mod Handed

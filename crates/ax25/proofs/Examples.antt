@@ -1,0 +1,172 @@
+-- Plain frames: one of each type, with digipeaters that have heard it and that have not.
+-- Assumes nothing.
+use mathlib.Core.Path.{_≡_, refl}
+use mathlib.Core.Bool.{Bool, true, false, _&&_, not}
+use mathlib.Core.List.{List, [], _∷_}
+use Prim.Native.Nat.{ℕ}
+use native.Mathlib.Omega.{arith}
+use lib.ListN.{length, getD}
+use lib.Dec.{leb, ltb}
+use borrow.Author.Tests.{leb-true, ltb-true, not-true}
+use Rattle.laws.specs.Bits.{Bytes}
+use Rattle.laws.specs.Pick.{pick}
+use Rattle.laws.specs.Text.{ascii, between, isDigit, same, isOneOf, starts, filled}
+use Rattle.laws.proofs.Cases.{and-left, and-right}
+use Rattle.laws.proofs.TextLaws.{below, at-each}
+use Rattle.ax25_token.specs.Token.{twoDigits, decimal, suffix}
+use Rattle.ax25_token.specs.Clean.{cleanLetter, cleanLetters, misread, callText, CleanCall}
+use Rattle.ax25_address.specs.Classify.{anyHigh, marksAt, isPosition, isTimestamped, isMessage, classifyOf}
+use Rattle.ax25_aprs.proofs.Examples.{a-position, a-timestamped, a-message}
+use Rattle.ax25.specs.Plain.{Address, AllClean, addressBytes, addressField, text, binary, body, Plain}
+
+bytes-by : (s : List ℕ) → below (λ i. ltb (getD s i 0) 256) (length s) ≡ true → Bytes s
+bytes-by s t i h = ltb-true (getD s i 0) 256 (at-each (λ i. ltb (getD s i 0) 256) (length s) t i h)
+
+-- ---- clean calls by a computed test
+
+cleanTest : List ℕ → ℕ → Bool
+cleanTest s n = cleanLetters s && (leb 1 (length s) && (leb (length s) 6 && (ltb n 16 && not (isOneOf (callText s n) misread))))
+
+clean-by : (s : List ℕ) (n : ℕ) → cleanTest s n ≡ true → CleanCall s n
+unfolding cleanTest
+clean-by s n t =
+    let t₁ = and-right (cleanLetters s) _ t in
+    let t₂ = and-right (leb 1 (length s)) _ t₁ in
+    let t₃ = and-right (leb (length s) 6) _ t₂ in
+    record {
+      clean = and-left (cleanLetters s) _ t;
+      some-letters = leb-true 1 (length s) (and-left (leb 1 (length s)) _ t₁);
+      few-letters = leb-true (length s) 6 (and-left (leb (length s) 6) _ t₂);
+      small = ltb-true n 16 (and-left (ltb n 16) _ t₃);
+      not-misread = not-true (isOneOf (callText s n) misread) (and-right (ltb n 16) _ t₃);
+    }
+
+allTest : List Address → Bool
+allTest [] = true
+allTest (a ∷ v) = cleanTest (a .letters) (a .ssid) && allTest v
+
+all-clean : (v : List Address) → allTest v ≡ true → AllClean v
+unfolding allTest
+all-clean [] t = tt
+all-clean (a ∷ v) t =
+    let c = cleanTest (a .letters) (a .ssid) in
+    (clean-by (a .letters) (a .ssid) (and-left c (allTest v) t), all-clean v (and-right c (allTest v) t))
+
+abbrev to : List ℕ → ℕ → Bool → Address
+to letters ssid heard = record { letters = letters; ssid = ssid; heard = heard }
+
+-- ---- frames
+
+-- Text: document 01's frame, CQ from K1A
+pub plain-text : Plain (
+    0x86 ∷ 0xA2 ∷ 0x40 ∷ 0x40 ∷ 0x40 ∷ 0x40 ∷ 0x60
+    ∷ 0x96 ∷ 0x62 ∷ 0x82 ∷ 0x40 ∷ 0x40 ∷ 0x40 ∷ 0x61
+    ∷ 0x03 ∷ 0xF0 ∷ ascii "A"
+)
+unfolding allTest cleanTest cleanLetters cleanLetter callText suffix decimal twoDigits isOneOf same misread addressField addressBytes filled pick starts below classifyOf anyHigh marksAt isPosition isTimestamped isMessage isDigit between
+plain-text =
+    record {
+      dest = to (ascii "CQ") 0 false;
+      src = to (ascii "K1A") 0 false;
+      digis = [];
+      info = ascii "A";
+      dest-unheard = refl;
+      src-unheard = refl;
+      clean = all-clean (to (ascii "CQ") 0 false ∷ to (ascii "K1A") 0 false ∷ []) refl;
+      few = omega arith;
+      octets = bytes-by (ascii "A") refl;
+      is = refl;
+      kind = text refl;
+    }
+
+-- Binary: a digipeater has heard it
+pub plain-binary : Plain (
+    0x86 ∷ 0xA2 ∷ 0x40 ∷ 0x40 ∷ 0x40 ∷ 0x40 ∷ 0x60
+    ∷ 0x9C ∷ 0x60 ∷ 0x86 ∷ 0x82 ∷ 0x98 ∷ 0x98 ∷ 0x7E
+    ∷ 0xAE ∷ 0x92 ∷ 0x88 ∷ 0x8A ∷ 0x62 ∷ 0x40 ∷ 0xE3
+    ∷ 0x03 ∷ 0xF0 ∷ 0x80 ∷ 0x00 ∷ 0xFF ∷ []
+)
+unfolding allTest cleanTest cleanLetters cleanLetter callText suffix decimal twoDigits isOneOf same misread addressField addressBytes filled pick starts below classifyOf anyHigh marksAt isPosition isTimestamped isMessage isDigit between
+plain-binary =
+    record {
+      dest = to (ascii "CQ") 0 false;
+      src = to (ascii "N0CALL") 15 false;
+      digis = to (ascii "WIDE1") 1 true ∷ [];
+      info = 0x80 ∷ 0x00 ∷ 0xFF ∷ [];
+      dest-unheard = refl;
+      src-unheard = refl;
+      clean = all-clean (to (ascii "CQ") 0 false ∷ to (ascii "N0CALL") 15 false ∷ to (ascii "WIDE1") 1 true ∷ []) refl;
+      few = omega arith;
+      octets = bytes-by (0x80 ∷ 0x00 ∷ 0xFF ∷ []) refl;
+      is = refl;
+      kind = binary refl;
+    }
+
+-- Position: the first digipeater has heard it, the second has not
+pub plain-position : Plain (
+    0x82 ∷ 0xA0 ∷ 0xA4 ∷ 0xA6 ∷ 0x40 ∷ 0x40 ∷ 0x60
+    ∷ 0x96 ∷ 0x62 ∷ 0x82 ∷ 0x40 ∷ 0x40 ∷ 0x40 ∷ 0x60
+    ∷ 0xAE ∷ 0x92 ∷ 0x88 ∷ 0x8A ∷ 0x62 ∷ 0x40 ∷ 0xE2
+    ∷ 0xAE ∷ 0x92 ∷ 0x88 ∷ 0x8A ∷ 0x64 ∷ 0x40 ∷ 0x63
+    ∷ 0x03 ∷ 0xF0 ∷ ascii "!4730.12N/12217.56W>PinPoint 40 m /A=001234 ack"
+)
+unfolding allTest cleanTest cleanLetters cleanLetter callText suffix decimal twoDigits isOneOf same misread addressField addressBytes filled pick starts below classifyOf anyHigh marksAt isPosition isTimestamped isMessage isDigit between
+plain-position =
+    record {
+      dest = to (ascii "APRS") 0 false;
+      src = to (ascii "K1A") 0 false;
+      digis = to (ascii "WIDE1") 1 true ∷ to (ascii "WIDE2") 1 false ∷ [];
+      info = ascii "!4730.12N/12217.56W>PinPoint 40 m /A=001234 ack";
+      dest-unheard = refl;
+      src-unheard = refl;
+      clean = all-clean (to (ascii "APRS") 0 false ∷ to (ascii "K1A") 0 false ∷ to (ascii "WIDE1") 1 true ∷ to (ascii "WIDE2") 1 false ∷ []) refl;
+      few = omega arith;
+      octets = bytes-by (ascii "!4730.12N/12217.56W>PinPoint 40 m /A=001234 ack") refl;
+      is = refl;
+      kind = body a-position;
+    }
+
+-- TimestampedPosition: no digipeater
+pub plain-timestamped : Plain (
+    0x82 ∷ 0xA0 ∷ 0xA4 ∷ 0xA6 ∷ 0x40 ∷ 0x40 ∷ 0x60
+    ∷ 0x9C ∷ 0x60 ∷ 0x86 ∷ 0x82 ∷ 0x98 ∷ 0x98 ∷ 0x7F
+    ∷ 0x03 ∷ 0xF0 ∷ ascii "@123456h4730.12N/12217.56W>PinPoint 40 m /A=001234 ack"
+)
+unfolding allTest cleanTest cleanLetters cleanLetter callText suffix decimal twoDigits isOneOf same misread addressField addressBytes filled pick starts below classifyOf anyHigh marksAt isPosition isTimestamped isMessage isDigit between
+plain-timestamped =
+    record {
+      dest = to (ascii "APRS") 0 false;
+      src = to (ascii "N0CALL") 15 false;
+      digis = [];
+      info = ascii "@123456h4730.12N/12217.56W>PinPoint 40 m /A=001234 ack";
+      dest-unheard = refl;
+      src-unheard = refl;
+      clean = all-clean (to (ascii "APRS") 0 false ∷ to (ascii "N0CALL") 15 false ∷ []) refl;
+      few = omega arith;
+      octets = bytes-by (ascii "@123456h4730.12N/12217.56W>PinPoint 40 m /A=001234 ack") refl;
+      is = refl;
+      kind = body a-timestamped;
+    }
+
+-- Message: the digipeater has not heard it
+pub plain-message : Plain (
+    0x82 ∷ 0xA0 ∷ 0xA4 ∷ 0xA6 ∷ 0x40 ∷ 0x40 ∷ 0x60
+    ∷ 0x96 ∷ 0x62 ∷ 0x82 ∷ 0x40 ∷ 0x40 ∷ 0x40 ∷ 0x60
+    ∷ 0xAE ∷ 0x92 ∷ 0x88 ∷ 0x8A ∷ 0x64 ∷ 0x40 ∷ 0x63
+    ∷ 0x03 ∷ 0xF0 ∷ ascii ":N0CALL-12:VARA HF /A=001234"
+)
+unfolding allTest cleanTest cleanLetters cleanLetter callText suffix decimal twoDigits isOneOf same misread addressField addressBytes filled pick starts below classifyOf anyHigh marksAt isPosition isTimestamped isMessage isDigit between
+plain-message =
+    record {
+      dest = to (ascii "APRS") 0 false;
+      src = to (ascii "K1A") 0 false;
+      digis = to (ascii "WIDE2") 1 false ∷ [];
+      info = ascii ":N0CALL-12:VARA HF /A=001234";
+      dest-unheard = refl;
+      src-unheard = refl;
+      clean = all-clean (to (ascii "APRS") 0 false ∷ to (ascii "K1A") 0 false ∷ to (ascii "WIDE2") 1 false ∷ []) refl;
+      few = omega arith;
+      octets = bytes-by (ascii ":N0CALL-12:VARA HF /A=001234") refl;
+      is = refl;
+      kind = body a-message;
+    }

@@ -1,0 +1,121 @@
+-- Document 01's edges marked P: one table that holds of the definitions as a whole.
+-- Assumes nothing.
+use mathlib.Core.Path.{_≡_, refl}
+use mathlib.Core.Bool.{Bool, true, false, _&&_}
+use mathlib.Core.List.{List, [], _∷_, map}
+use mathlib.Core.Option.{Option, none, some}
+use Prim.Native.Nat.{ℕ}
+use Prim.Native.String.{String}
+use lib.Dec.{eqb}
+use lib.ListN.{replicate}
+use Rattle.laws.specs.Bits.{odd, num, bitsOf, valueOf, fit, packN, pack, unpack}
+use Rattle.laws.specs.Pick.{pick}
+use Rattle.laws.specs.Text.{ascii, same, between, isDigit, upper, isOneOf, starts, later, position, filled, trimFront, keepOr, trimEnd, trim}
+use Rattle.crc.specs.Crc.{crcBit, crcSteps, crcByte, crcFrom, crcOf, crcBits}
+use Rattle.bits.specs.Read.{letter, takeBits, takeText, taken}
+use Rattle.bits.specs.Text7.{sevens, unsevens, lastOr, text7Bits, differ, counted, endOf, text7Of, text7Next, text7Left}
+use Rattle.bits.specs.Val.{stops, nextVal, valFrom, valOf}
+use Rattle.bits.specs.Write.{widthOf, topBits}
+use Rattle.refusals.specs.Outcome.{Outcome, refused, answer, into}
+use Rattle.sender.specs.Send.{countFor, sendOf, ceiling, countOf, checkOf, leadOf, fragmentOf, piecesFrom, led, splitOf, mostOf}
+use Rattle.ax25_token.specs.Tables.{callAlphabet, long, symOf, alphaOf, wideTokens, wideRow, pairRows, pairTexts, fixedRows, numberedRows}
+use Rattle.ax25_token.specs.Token.{tokenBits, readToken, hyphened, baseOf, behind, numberAt, twoDigits, decimal, suffix, pairBits, pairsBits, fixedBits, takes, numberedBits, spell, ending, plainAp, apBits, spelledBits, orElse, after, pairForm, fixedForm, numberedForm, symbolForm, formOf, wideNumber, readPair, readNumber, letterOf, goOn, readLetters, readSpelled, readForm}
+use Rattle.ax25_address.specs.Types.{Ax25, Generic}
+use Rattle.ax25_address.specs.Address.{white, half, addrCall, double, cutTo, ssidOf, callBytes}
+use Rattle.ax25_address.specs.Classify.{anyHigh, marksAt, isPosition, isTimestamped, isMessage, stopsAt, endsAt, tally, scanThird, isThird, classifyOf}
+use Rattle.ax25_address.specs.Parse.{splitOff, digiFields, parseOf, typeOf, aliases, aliasCalls, sameAll, aliasFrom, aliasOf}
+use Rattle.ax25.specs.Encode.{Coded, headerOf, bodyBytes, tokensBits, digiBits, headBits, frameBits, codeParsed, encodeOf}
+use Rattle.ax25.specs.Decode.{nameAt, bytesIn, marked, readTokens, readAlias, readAliased, readDigis, readHead, readInfo, addresses, readFrame}
+use Rattle.kiss.specs.Generic.{genericOf, genericBack}
+use Rattle.kiss.specs.Codec.{codeOf, Decoded, decodeOf, summaryOf, decodeMessage, decodeSome}
+
+pub data Edge : Type 0 where
+  codes : ℕ → List ℕ → List ℕ → Edge  -- command and data, the message
+  decodes : List ℕ → ℕ → List ℕ → Edge  -- a message, command and data
+  counts : ℕ → ℕ → ℕ → Edge  -- field and bytes, the count
+  refuses : ℕ → ℕ → ℕ → ℕ → Edge  -- field, bytes and mask, the number that so many zeros are refused with
+  sends : List ℕ → ℕ → ℕ → ℕ → List ℕ → Edge  -- a message, field, mask and k, fragment k
+  token : String → String → Edge  -- a call, its bits
+  reads : String → String → Edge  -- bits, the call
+
+-- the seventeen-byte frame, and its message
+frame : List ℕ
+frame = 0x86 ∷ 0xA2 ∷ 0x40 ∷ 0x40 ∷ 0x40 ∷ 0x40 ∷ 0x60 ∷ 0x96 ∷ 0x62 ∷ 0x82 ∷ 0x40 ∷ 0x40 ∷ 0x40 ∷ 0x61 ∷ 0x03 ∷ 0xF0 ∷ 0x41 ∷ []
+
+message : List ℕ
+message = 0x40 ∷ 0xAC ∷ 0xB7 ∷ 0x01 ∷ 0x00 ∷ 0x10 ∷ 0x40 ∷ []
+
+pub table : List Edge
+table =
+    codes Generic [] (0x21 ∷ 0xFF ∷ [])
+    ∷ codes Generic (ascii "A") (0x21 ∷ 0x82 ∷ [])
+    ∷ codes Generic (ascii "B") (0x21 ∷ 0x85 ∷ [])
+    ∷ codes Generic (0x80 ∷ []) (0x20 ∷ 0x80 ∷ [])
+    ∷ decodes (0x21 ∷ []) Generic []
+    ∷ counts 5 5 1
+    ∷ counts 5 6 2
+    ∷ counts 5 8 2
+    ∷ counts 5 9 3
+    ∷ counts 3 34 17
+    ∷ counts 3 35 18
+    ∷ refuses 3 35 0xF0 12
+    ∷ counts 3 18 9
+    ∷ counts 3 19 10
+    ∷ refuses 3 19 0xF8 12
+    ∷ token "WIDE1-1" "100101001"
+    ∷ token "WIDE2-2" "100101110"
+    ∷ reads "100101110" "WIDE2-10"
+    ∷ codes Ax25 frame message
+    ∷ decodes message Ax25 frame
+    ∷ counts 5 7 2
+    ∷ sends message 5 0xF0 0 (0xC0 ∷ 0x40 ∷ 0xAC ∷ 0xB7 ∷ 0x01 ∷ [])
+    ∷ sends message 5 0xF0 1 (0x40 ∷ 0x00 ∷ 0x10 ∷ 0x40 ∷ [])
+    ∷ []
+
+-- ---- tests of answers
+
+givesMessage : Outcome Coded → List ℕ → Bool
+givesMessage (refused n) m = false
+givesMessage (answer c) m = same (c .bytes) m
+
+givesData : Outcome Decoded → ℕ → List ℕ → Bool
+givesData (refused n) command d = false
+givesData (answer r) command d = eqb (r .command) command && same (r .bytes) d
+
+givesCount : Outcome ℕ → ℕ → Bool
+givesCount (refused n) count = false
+givesCount (answer k) count = eqb k count
+
+isRefused : Outcome (List ℕ) → ℕ → Bool
+isRefused (refused n) k = eqb n k
+isRefused (answer b) k = false
+
+givesFragment : Outcome (List ℕ) → List ℕ → Bool
+givesFragment (refused n) f = false
+givesFragment (answer b) f = same b f
+
+givesBits : Option (List Bool) → List ℕ → Bool
+givesBits none t = false
+givesBits (some b) t = same (map letter b) t
+
+givesCall : Option (List ℕ × List Bool) → List ℕ → Bool
+givesCall none c = false
+givesCall (some (t, [])) c = same t c
+givesCall (some (t, x ∷ b)) c = false
+
+pub holds : Edge → Bool
+holds (codes command d m) = givesMessage (codeOf command d) m
+holds (decodes m command d) = givesData (decodeOf m) command d
+holds (counts field bytes count) = givesCount (countFor bytes field) count
+holds (refuses field bytes mask n) = isRefused (sendOf (replicate bytes 0) field mask 0) n
+holds (sends m field mask k f) = givesFragment (sendOf m field mask k) f
+holds (token c b) = givesBits (tokenBits 6 (ascii c)) (ascii b)
+holds (reads b c) = givesCall (readToken 6 (map (λ x. eqb x 49) (ascii b))) (ascii c)
+
+pub all : List Edge → Bool
+all [] = true
+all (e ∷ es) = holds e && all es
+
+pub table-holds : all table ≡ true
+unfolding frame message table givesMessage givesData givesCount isRefused givesFragment givesBits givesCall holds all odd num bitsOf valueOf fit packN pack unpack pick between isDigit upper same isOneOf starts later position filled trimFront keepOr trimEnd trim crcBit crcSteps crcByte crcFrom crcOf crcBits takeBits takeText taken sevens unsevens lastOr text7Bits differ counted endOf text7Of text7Next text7Left stops nextVal valFrom valOf widthOf topBits into ceiling countOf countFor checkOf leadOf fragmentOf piecesFrom led splitOf mostOf sendOf callAlphabet long symOf alphaOf wideTokens wideRow pairRows pairTexts fixedRows numberedRows hyphened baseOf behind numberAt twoDigits decimal suffix pairBits pairsBits fixedBits takes numberedBits spell ending plainAp apBits spelledBits orElse tokenBits after pairForm fixedForm numberedForm symbolForm formOf wideNumber readPair readNumber letterOf goOn readLetters readSpelled readForm readToken white half addrCall double cutTo ssidOf callBytes anyHigh marksAt isPosition isTimestamped isMessage stopsAt endsAt tally scanThird isThird classifyOf splitOff digiFields parseOf typeOf aliases aliasCalls sameAll aliasFrom aliasOf headerOf bodyBytes tokensBits digiBits headBits frameBits codeParsed encodeOf nameAt bytesIn marked readTokens readAlias readAliased readDigis readHead readInfo addresses readFrame genericOf genericBack codeOf summaryOf decodeMessage decodeSome decodeOf
+table-holds = refl
