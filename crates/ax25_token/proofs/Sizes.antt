@@ -6,16 +6,16 @@ use mathlib.Core.List.{List, [], _∷_, _++_, map}
 use mathlib.Core.Option.{Option, none, some, Option·some-injective, Option·none-ne-some}
 use Prim.Native.Nat.{ℕ, zero, suc, _+_, _-_, _*_, _≤_}
 use native.Mathlib.Omega.{arith}
-use lib.ListN.{length, take, drop, length-append, length-drop, length-map}
+use lib.ListN.{length, drop, length-append, length-drop, length-map}
 use lib.Dec.{eqb, ltb, leb}
 use borrow.Author.Tests.{leb-true, not-true, le-leb, lt-leb}
-use Rattle.laws.specs.Bits.{bitsOf, valueOf}
+use Rattle.laws.specs.Bits.{bitsOf}
 use Rattle.laws.specs.Pick.{pick, _>>=_}
 use Rattle.laws.specs.Text.{ascii, upper, isOneOf, same, starts}
 use Rattle.laws.proofs.BitLaws.{length-bits}
 use Rattle.laws.proofs.Cases.{by-test, by-le, and-left, and-right}
 use Rattle.laws.proofs.TextLaws.{below, at-each, starts-eq}
-use Rattle.bits.specs.Read.{takeBits, takeText, letter as digit}
+use Rattle.bits.specs.Read.{takeBits, takeText}
 use Rattle.bits.specs.Val.{valOf}
 use Rattle.ax25_token.specs.Tables.{long, symOf, alphaOf, Pair, Fixed, Numbered, wideTokens, wideRow, pairRows, pairTexts, fixedRows, numberedRows}
 use Rattle.ax25_token.specs.Token.{hyphened, baseOf, behind, numberAt, pairBits, pairsBits, fixedBits, takes, numberedBits, spell, ending, plainAp, apBits, spelledBits, orElse, tokenBits, twoDigits, decimal, suffix, after, Form, spelled, paired, named, counted, begun, noToken, pairForm, fixedForm, numberedForm, symbolForm, formOf, wideNumber, readPair, readNumber, Letter, blank, letter, neither, letterOf, goOn, readLetters, readSpelled, readForm, readToken}
@@ -218,11 +218,11 @@ taken-left n b w v r e =
 
 take-left : (n : ℕ) (b : List Bool) (v : ℕ) (r : List Bool) → takeBits n b ≡ some (v, r) → length r + n ≡ length b
 unfolding takeBits
-take-left n b v r e = taken-left n b (valueOf (take n b)) v r e
+take-left n b v r e = taken-left n b _ v r e
 
 wide-left : (n : ℕ) (b : List Bool) (v : ℕ) (r : List Bool) → wideNumber n b ≡ some (v, r) → length r + n ≡ length b
-unfolding wideNumber takeText
-wide-left n b v r e = taken-left n b (valOf (map digit (take n b))) v r e
+unfolding wideNumber takeText takeBits
+wide-left n b v r e = taken-left n b _ v r e
 
 took-in : (n k m : ℕ) (b q : List Bool) (o : Option (List ℕ × List Bool)) → length q + m ≤ length b + k → Took n k q o → Took n m b o
 took-in n k m b q o h f c r e = let s = f c r e in (s .0, omega (arith, s .1))
