@@ -1,16 +1,16 @@
 -- The code of a letter, by ranges: one computed test over the bytes up to Z, and one law past them.
 -- Assumes nothing.
-use mathlib.Core.Path.{_≡_, refl, sym, ap, _∙_}
-use mathlib.Core.Bool.{Bool, true, false, _&&_}
+use mathlib.Core.Path.{_≡_, refl, ap}
+use mathlib.Core.Bool.{Bool, true, _&&_}
 use mathlib.Core.List.{List, [], _∷_}
 use mathlib.Core.Option.{Option, none, some}
 use Prim.Native.Nat.{ℕ, suc, _-_, _≤_, _<_}
 use native.Mathlib.Omega.{arith}
-use lib.Dec.{eqb, ltb, leb}
+use lib.Dec.{eqb, ltb}
 use borrow.Author.Tests.{eqb-true, ltb-true, eq-eqb, ne-eqb, le-leb, lt-leb}
 use Rattle.laws.specs.Pick.{pick}
 use Rattle.laws.specs.Text.{between, isDigit, later, position}
-use Rattle.laws.proofs.Cases.{by-le, and-left, and-right}
+use Rattle.laws.proofs.Cases.{and-left, and-right}
 use Rattle.laws.proofs.TextLaws.{below, at-each}
 use Rattle.ax25_token.specs.Tables.{callAlphabet, alphaOf}
 

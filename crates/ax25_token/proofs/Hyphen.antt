@@ -1,8 +1,8 @@
 -- The first hyphen of a text: what stands before it and behind it.
 -- Assumes nothing.
 use mathlib.Core.Path.{_≡_, refl}
-use mathlib.Core.Bool.{true, false, _||_}
-use mathlib.Core.List.{List, [], _∷_}
+use mathlib.Core.Bool.{true, false}
+use mathlib.Core.List.{List, [], _∷_, _++_}
 use Prim.Native.Nat.{ℕ, zero, suc, _≤_, _<_, suc-le-suc}
 use native.Mathlib.Nat.{not-suc-le-zero, le-of-suc-le-suc}
 use native.Mathlib.Omega.{arith}
@@ -11,12 +11,22 @@ use lib.Dec.{eqb}
 use borrow.Author.Tests.{eq-eqb, ne-eqb}
 use Rattle.laws.specs.Pick.{pick}
 use Rattle.laws.proofs.Cases.{by-test, or-left, or-right}
-use Rattle.ax25_token.specs.Token.{hyphened, baseOf, behind}
+use Rattle.ax25_token.specs.Token.{hyphened, baseOf, behind, suffix}
 
 pub base-short : (c : List ℕ) → length (baseOf c) ≤ length c
 unfolding baseOf pick
 base-short [] = omega arith
 base-short (x ∷ c) = by-test (eqb x 45) (λ e. rw e (omega arith)) (λ e. rw e (omega (arith, base-short c)))
+
+pub suffix-base : (s : ℕ) → baseOf (suffix s) ≡ []
+unfolding suffix baseOf pick
+suffix-base s = by-test (eqb s 0) (λ e. rw e) (λ e. rw e)
+
+-- the number behind a text adds nothing
+pub base-suffix : (t : List ℕ) (s : ℕ) → length (baseOf (t ++ suffix s)) ≤ length t
+unfolding baseOf pick
+base-suffix [] s = rw (suffix-base s) (omega arith)
+base-suffix (x ∷ t) s = by-test (eqb x 45) (λ e. rw e (omega arith)) (λ e. rw e (omega (arith, base-suffix t s)))
 
 -- ---- no hyphen
 
