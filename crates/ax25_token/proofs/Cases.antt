@@ -1,23 +1,23 @@
 -- The cases of the readings and of the codings, one law for each path.
 -- Assumes nothing.
 use mathlib.Core.Path.{_≡_, refl, sym, ap, _∙_}
-use mathlib.Core.Bool.{Bool, true, false, _||_}
+use mathlib.Core.Bool.{Bool, true, false, _&&_, _||_, not}
 use mathlib.Core.List.{List, [], _∷_, _++_, map}
 use mathlib.Core.Option.{Option, none, some}
 use Prim.Native.Nat.{ℕ, suc, zero, _+_, _-_, _≤_, _<_}
 use native.Mathlib.Nat.{not-suc-le-zero, le-of-suc-le-suc}
 use native.Mathlib.Omega.{arith}
 use lib.ListN.{length, drop, getD, getElem?}
-use lib.Dec.{eqb, ltb}
-use borrow.Author.Tests.{eq-eqb, ne-eqb, lt-ltb, le-ltb}
+use lib.Dec.{eqb, ltb, leb}
+use borrow.Author.Tests.{eqb-true, eq-eqb, ne-eqb, lt-ltb, le-ltb, le-leb, lt-leb}
 use Rattle.laws.specs.Bits.{bitsOf}
 use Rattle.laws.specs.Pick.{pick}
 use Rattle.laws.specs.Text.{ascii, upper, same, isOneOf, starts, later, position}
-use Rattle.laws.proofs.TextLaws.{below, at-each, same-eq}
+use Rattle.laws.proofs.TextLaws.{below, at-each, same-eq, eq-same, ne-same}
 use Rattle.bits.specs.Read.{takeBits}
 use Rattle.bits.specs.Val.{valOf}
-use Rattle.ax25_token.specs.Tables.{callAlphabet, long, symOf, alphaOf, wideTokens, wideRow, pairRows, fixedRows, numberedRows}
-use Rattle.ax25_token.specs.Token.{hyphened, baseOf, behind, twoDigits, suffix, pairBits, pairsBits, fixedBits, numberedBits, spell, ending, plainAp, apBits, spelledBits, orElse, tokenBits, after, Form, spelled, paired, named, counted, begun, noToken, pairForm, fixedForm, numberedForm, symbolForm, formOf, wideNumber, readPair, readNumber, letterOf, goOn, readLetters, readSpelled, readForm, readToken}
+use Rattle.ax25_token.specs.Tables.{callAlphabet, long, symOf, alphaOf, Pair, Fixed, Numbered, pairTexts, wideTokens, wideRow, pairRows, fixedRows, numberedRows}
+use Rattle.ax25_token.specs.Token.{hyphened, baseOf, behind, numberAt, twoDigits, decimal, suffix, pairBits, pairsBits, fixedBits, takes, numberedBits, spell, ending, plainAp, apBits, spelledBits, orElse, tokenBits, after, Form, spelled, paired, named, counted, begun, noToken, pairForm, fixedForm, numberedForm, symbolForm, formOf, wideNumber, readPair, readNumber, letterOf, goOn, readLetters, readSpelled, readForm, readToken}
 
 -- ---- a name before what is read
 
@@ -28,6 +28,25 @@ after-none n = refl
 pub after-some : (n t : List ℕ) (r : List Bool) → after n (some (t, r)) ≡ some (n ++ t, r)
 unfolding after
 after-some n t r = refl
+
+-- ---- a number behind a name
+
+module _ (v : ℕ) where
+  pub suffix-none : v ≡ 0 → suffix v ≡ []
+  unfolding suffix pick
+  suffix-none e = rw (eq-eqb v 0 e)
+
+  pub suffix-some : (v ≡ 0 → ⊥) → suffix v ≡ 45 ∷ decimal v
+  unfolding suffix pick
+  suffix-some n = rw (ne-eqb v 0 n)
+
+  pub decimal-one : v < 10 → decimal v ≡ (48 + v) ∷ []
+  unfolding decimal pick
+  decimal-one h = rw (lt-ltb v 10 h)
+
+  pub decimal-two : 10 ≤ v → decimal v ≡ twoDigits v
+  unfolding decimal pick
+  decimal-two h = rw (le-ltb v 10 h)
 
 -- ---- letters
 
@@ -246,6 +265,10 @@ module _ (l : ℕ) (b : List Bool) where
   unfolding readForm
   read-none = refl
 
+and-false : (a : Bool) → (a && false) ≡ false
+and-false true = refl
+and-false false = refl
+
 -- ---- coding: letters
 
 pub spell-none : spell [] ≡ some []
@@ -274,9 +297,38 @@ pub ending-short : (l n : ℕ) → n < l → ending l n ≡ bitsOf 6 0
 unfolding ending pick
 ending-short l n h = rw (lt-ltb n l h)
 
+-- ---- coding: the symbols
+
+symbolBack : ℕ → Bool
+symbolBack i = eqb (symOf (getD long i 0)) i
+
+all-symbols : below symbolBack 53 ≡ true
+unfolding below symbolBack symOf long position later pick
+all-symbols = refl
+
+-- the index of the symbol at an index
+pub symbol-back : (i : ℕ) → i < 53 → symOf (getD long i 0) ≡ i
+unfolding symbolBack
+symbol-back i h = eqb-true (symOf (getD long i 0)) i (at-each symbolBack 53 all-symbols i h)
+
 pub ap-symbol : symOf 59 ≡ 52
-unfolding symOf long position later pick
-ap-symbol = refl
+unfolding long
+ap-symbol = symbol-back 52 (omega arith)
+
+-- ---- coding: the AP form and spelled calls
+
+module _ (c : List ℕ) where
+  pub plain-yes : starts (ascii "AP") c ≡ true → hyphened c ≡ false → plainAp c ≡ true
+  unfolding plainAp
+  plain-yes s h = rw (s, h)
+
+  pub plain-other : starts (ascii "AP") c ≡ false → plainAp c ≡ false
+  unfolding plainAp
+  plain-other s = rw s
+
+  pub plain-hyphened : hyphened c ≡ true → plainAp c ≡ false
+  unfolding plainAp
+  plain-hyphened h = rw h (and-false (starts (ascii "AP") c))
 
 module _ (l : ℕ) (c : List ℕ) where
   pub ap-bad : spell (drop 2 c) ≡ none → apBits l c ≡ none
@@ -295,6 +347,59 @@ module _ (l : ℕ) (c : List ℕ) where
       → spelledBits l c ≡ some (b ++ (ending l (length (baseOf c)) ++ bitsOf 4 (valOf (behind c))))
   unfolding spelledBits
   spelled-bits b e = rw e
+
+-- ---- coding: the rows of the tables
+
+module _ (c : List ℕ) where
+  module _ (p : Pair) (ps : List Pair) where
+    pub pairs-here : isOneOf c (pairTexts (p .name)) ≡ true → pairsBits (p ∷ ps) c ≡ some (pairBits p c)
+    unfolding pairsBits pick
+    pairs-here e = rw e
+
+    pub pairs-next : isOneOf c (pairTexts (p .name)) ≡ false → pairsBits (p ∷ ps) c ≡ pairsBits ps c
+    unfolding pairsBits pick
+    pairs-next e = rw e
+
+  module _ (f : Fixed) (fs : List Fixed) where
+    pub fixed-here : c ≡ f .name → fixedBits (f ∷ fs) c ≡ some (bitsOf 6 (symOf (f .sym)))
+    unfolding fixedBits pick
+    fixed-here e = rw (eq-same c (f .name) e)
+
+    pub fixed-next : (c ≡ f .name → ⊥) → fixedBits (f ∷ fs) c ≡ fixedBits fs c
+    unfolding fixedBits pick
+    fixed-next e = rw (ne-same c (f .name) e)
+
+  module _ (n : Numbered) where
+    pub takes-yes : starts (n .name) c ≡ true → hyphened c ≡ false → n .low ≤ numberAt c 4 2 → numberAt c 4 2 < n .high → takes n c ≡ true
+    unfolding takes
+    takes-yes s h lo hi = rw (s, h, le-leb (n .low) (numberAt c 4 2) lo, lt-ltb (numberAt c 4 2) (n .high) hi)
+
+    pub takes-other : starts (n .name) c ≡ false → takes n c ≡ false
+    unfolding takes
+    takes-other s = rw s
+
+    pub takes-hyphened : hyphened c ≡ true → takes n c ≡ false
+    unfolding takes
+    takes-hyphened h = rw h (and-false (starts (n .name) c))
+
+    pub takes-low : numberAt c 4 2 < n .low → takes n c ≡ false
+    unfolding takes
+    takes-low h = rw (lt-leb (n .low) (numberAt c 4 2) h, and-false (not (hyphened c)), and-false (starts (n .name) c))
+
+    pub takes-high : n .high ≤ numberAt c 4 2 → takes n c ≡ false
+    unfolding takes
+    takes-high h =
+        rw (le-ltb (numberAt c 4 2) (n .high) h, and-false (leb (n .low) (numberAt c 4 2)), and-false (not (hyphened c)), and-false (starts (n .name) c))
+
+    module _ (ns : List Numbered) where
+      pub numbered-here : takes n c ≡ true
+          → numberedBits (n ∷ ns) c ≡ some (bitsOf 6 (symOf (n .sym)) ++ bitsOf (n .width) (numberAt c 4 2 - n .low))
+      unfolding numberedBits pick
+      numbered-here e = rw e
+
+      pub numbered-next : takes n c ≡ false → numberedBits (n ∷ ns) c ≡ numberedBits ns c
+      unfolding numberedBits pick
+      numbered-next e = rw e
 
 -- ---- coding: in the source's order
 
@@ -319,9 +424,9 @@ module _ (l : ℕ) (c : List ℕ) where
         code-number b e = rw (no-wide, no-pair, no-fixed, e)
 
         module _ (no-number : numberedBits numberedRows c ≡ none) where
-          pub code-ap : starts (ascii "AP") c ≡ true → hyphened c ≡ false → tokenBits l c ≡ apBits l c
-          unfolding tokenBits pick orElse plainAp
-          code-ap s h = rw (no-wide, no-pair, no-fixed, no-number, s, h)
+          pub code-ap : plainAp c ≡ true → tokenBits l c ≡ apBits l c
+          unfolding tokenBits pick orElse
+          code-ap e = rw (no-wide, no-pair, no-fixed, no-number, e)
 
           pub code-spelled : plainAp c ≡ false → tokenBits l c ≡ spelledBits l c
           unfolding tokenBits pick orElse

@@ -3,7 +3,7 @@
 use mathlib.Core.Path.{_≡_, refl, sym, ap₂, _∙_}
 use mathlib.Core.Logic.{_⊎_, inl, inr}
 use mathlib.Core.Bool.{Bool, true, false, _&&_, _||_, not, false≢true}
-use mathlib.Core.List.{List, [], _∷_, _++_, map, append-nil}
+use mathlib.Core.List.{List, [], _∷_, _++_, map, append-nil, map-append}
 use mathlib.Core.Option.{Option, none, some, Option·getD}
 use Prim.Native.Nat.{ℕ, zero, suc, _≤_, _<_}
 use native.Mathlib.Omega.{arith}
@@ -11,13 +11,15 @@ use lib.ListN.{drop, getD}
 use lib.Dec.{eqb, ltb, leb}
 use borrow.Author.Tests.{eqb-true, leb-true, ltb-true, not-true}
 use Rattle.laws.specs.Pick.{pick}
-use Rattle.laws.specs.Text.{between, isDigit, upper, later, position}
+use Rattle.laws.specs.Text.{between, isDigit, upper, same, later, position}
 use Rattle.laws.proofs.Cases.{by-test, and-left, and-right}
-use Rattle.laws.proofs.TextLaws.{below, at-each}
+use Rattle.laws.proofs.TextLaws.{below, at-each, same-eq}
 use Rattle.bits.specs.Val.{stops, nextVal, valFrom, valOf}
 use Rattle.ax25_token.specs.Tables.{callAlphabet, alphaOf}
 use Rattle.ax25_token.specs.Token.{hyphened, baseOf, behind, twoDigits, decimal, suffix}
 use Rattle.ax25_token.specs.Clean.{cleanLetter, cleanLetters, callText}
+use Rattle.ax25_token.proofs.Cases.{suffix-none}
+use Rattle.ax25_token.proofs.Hyphen.{suffix-base}
 
 -- ---- one letter
 
@@ -59,7 +61,7 @@ all-spelt : below if-clean 91 ≡ true
 unfolding below if-clean cleanLetter isDigit between spelt isSome alphaCode alphaOf callAlphabet position later pick upper
 all-spelt = refl
 
-clean-lt : (x : ℕ) → cleanLetter x ≡ true → x < 91
+pub clean-lt : (x : ℕ) → cleanLetter x ≡ true → x < 91
 clean-lt x e = below-91 (letter-or-digit x e)
   where
     below-91 : {x : ℕ} → ((65 ≤ x) × (x ≤ 90)) ⊎ ((48 ≤ x) × (x ≤ 57)) → x < 91
@@ -127,31 +129,38 @@ unfolding hyphened
 hyphen-clean [] t e = refl
 hyphen-clean (x ∷ c) t e = rw (clean-head x c e .no-hyphen, hyphen-clean c t (clean-rest x c e))
 
--- ---- the text of a call
+pub clean-plain : (c : List ℕ) → cleanLetters c ≡ true → hyphened c ≡ false
+unfolding hyphened
+clean-plain [] e = refl
+clean-plain (x ∷ c) e = rw (clean-head x c e .no-hyphen, clean-plain c (clean-rest x c e))
 
-pub suffix-none : suffix 0 ≡ []
-unfolding suffix pick
-suffix-none = refl
+-- ---- the text of a call
 
 pub call-plain : (letters : List ℕ) → callText letters 0 ≡ letters
 unfolding callText
-call-plain letters = rw suffix-none (append-nil letters)
-
-suffix-base : (s : ℕ) → baseOf (suffix s) ≡ []
-unfolding suffix baseOf pick
-suffix-base s = by-test (eqb s 0) (λ e. rw e) (λ e. rw e)
+call-plain letters = rw (suffix-none 0 refl) (append-nil letters)
 
 suffix-hyphened : (s : ℕ) → hyphened (suffix s) ≡ false → s ≡ 0
 unfolding suffix hyphened pick
 suffix-hyphened s h = by-test (eqb s 0) (eqb-true s 0) (λ e. absurd (false≢true (sym (rw e at h))))
 
--- the SSID is read from its text
-reads-ssid : ℕ → Bool
-reads-ssid s = eqb (valOf (behind (suffix s))) s
+-- the SSID is read from its text, which has no small letters
+ssidRight : ℕ → Bool
+ssidRight s = eqb (valOf (behind (suffix s))) s && same (map upper (suffix s)) (suffix s)
 
-all-ssids : below reads-ssid 16 ≡ true
-unfolding below reads-ssid behind suffix decimal twoDigits pick valOf valFrom stops nextVal
+all-ssids : below ssidRight 16 ≡ true
+unfolding below ssidRight behind suffix decimal twoDigits pick valOf valFrom stops nextVal same upper between
 all-ssids = refl
+
+read-ssid : (s : ℕ) → s < 16 → valOf (behind (suffix s)) ≡ s
+unfolding ssidRight
+read-ssid s h =
+    eqb-true (valOf (behind (suffix s))) s (and-left _ (same (map upper (suffix s)) (suffix s)) (at-each ssidRight 16 all-ssids s h))
+
+upper-suffix : (s : ℕ) → s < 16 → map upper (suffix s) ≡ suffix s
+unfolding ssidRight
+upper-suffix s h =
+    same-eq (map upper (suffix s)) (suffix s) (and-right (eqb (valOf (behind (suffix s))) s) _ (at-each ssidRight 16 all-ssids s h))
 
 module _ (letters : List ℕ) (ssid : ℕ) (e : cleanLetters letters ≡ true) where
   pub call-base : baseOf (callText letters ssid) ≡ letters
@@ -163,10 +172,16 @@ module _ (letters : List ℕ) (ssid : ℕ) (e : cleanLetters letters ≡ true) w
   call-behind = behind-clean letters (suffix ssid) e
 
   pub call-ssid : ssid < 16 → valOf (behind (callText letters ssid)) ≡ ssid
-  unfolding reads-ssid
-  call-ssid h = rw call-behind (eqb-true (valOf (behind (suffix ssid))) ssid (at-each reads-ssid 16 all-ssids ssid h))
+  call-ssid h = rw call-behind (read-ssid ssid h)
+
+  pub call-upper : ssid < 16 → map upper (callText letters ssid) ≡ callText letters ssid
+  unfolding callText
+  call-upper h = rw (map-append upper letters (suffix ssid), upper-clean letters e, upper-suffix ssid h)
 
   -- a call with no hyphen has no SSID
   pub call-unhyphened : hyphened (callText letters ssid) ≡ false → ssid ≡ 0
   unfolding callText
   call-unhyphened h = suffix-hyphened ssid (sym (hyphen-clean letters (suffix ssid) e) ∙ h)
+
+  pub call-hyphened : (ssid ≡ 0 → ⊥) → hyphened (callText letters ssid) ≡ true
+  call-hyphened n = by-test (hyphened (callText letters ssid)) (λ t. t) (λ f. absurd (n (call-unhyphened f)))

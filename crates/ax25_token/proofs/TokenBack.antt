@@ -4,7 +4,7 @@ use mathlib.Core.Path.{_≡_, refl, sym, ap, ap₂, subst, _∙_}
 use mathlib.Core.Logic.{⊎-elim}
 use mathlib.Core.Bool.{Bool, true, false, _&&_, _||_, not}
 use mathlib.Core.List.{List, [], _∷_, _++_, map, append-assoc}
-use mathlib.Core.Option.{Option, none, some, Option·some-injective}
+use mathlib.Core.Option.{Option, none, some, Option·some-injective, Option·none-ne-some}
 use Prim.Native.Nat.{ℕ, zero, suc, _+_, _-_, _*_, _%_, _^_, _≤_, _<_, min}
 use native.Mathlib.Nat.{le-of-suc-le-suc, not-suc-le-zero, mod-eq-of-lt}
 use native.Mathlib.Omega.{arith}
@@ -26,7 +26,7 @@ use Rattle.ax25_token.specs.Token.{hyphened, baseOf, numberAt, twoDigits
 use Rattle.ax25_token.specs.Clean.{cleanLetter, cleanLetters, misread, callText, CleanCall}
 use Rattle.ax25_token.proofs.Cases.{form-spelled, form-ap, token-form, code-wide, ending-all, ending-short, ap-whole, spelled-bits}
 use Rattle.ax25_token.proofs.CleanLaws.{letter-or-digit, alphaCode, Spelt, clean-first, clean-rest, clean-head, clean-drop, upper-clean, call-plain, call-base, call-ssid, call-unhyphened}
-use Rattle.ax25_token.proofs.Sizes.{pair-size, token-size}
+use Rattle.ax25_token.proofs.Sizes.{pair-size, token-size-call}
 
 -- the bits x are read as the call c, whatever follows
 abbrev pub Reads : ℕ → List ℕ → List Bool → Type 0
@@ -118,9 +118,6 @@ unfolding pick
 chosen true b x o R f g e = f refl (Option·some-injective b x e)
 chosen false b x o R f g e = g e
 
-no-bits : (R : Type 0) (x : List Bool) → _≡_ {A = Option (List Bool)} none (some x) → R
-no-bits R x e = let z : _≡_ {A = ℕ} 0 1 = cc in absurd (omega arith)
-
 abbrev PairsRight : List Pair → Type 0
 PairsRight [] = Unit {0}
 PairsRight (p ∷ ps) = (PairRight p × (each (fits p) (pairTexts (p .name)) ≡ true)) × PairsRight ps
@@ -132,7 +129,7 @@ pairs-right =
 
 pairs-back : (l : ℕ) (ps : List Pair) → PairsRight ps → (c : List ℕ) (x : List Bool) → pairsBits ps c ≡ some x → Reads l c x
 unfolding pairsBits
-pairs-back l [] h c x e = no-bits (Reads l c x) x e
+pairs-back l [] h c x e = absurd (Option·none-ne-some x e)
 pairs-back l (p ∷ ps) h c x e =
     chosen (isOneOf c (pairTexts (p .name))) (pairBits p c) x (pairsBits ps c) (Reads l c x)
     (λ t q. rw q at (row-back l p c (h .0 .0) (one-of-each (fits p) c (pairTexts (p .name)) (h .0 .1) t)))
@@ -150,7 +147,7 @@ fixed-right =
 
 fixed-back : (l : ℕ) (fs : List Fixed) → FixedRight fs → (c : List ℕ) (x : List Bool) → fixedBits fs c ≡ some x → Reads l c x
 unfolding fixedBits readForm
-fixed-back l [] h c x e = no-bits (Reads l c x) x e
+fixed-back l [] h c x e = absurd (Option·none-ne-some x e)
 fixed-back l (f ∷ fs) h c x e =
     let i = symOf (f .sym) in
     chosen (same c (f .name)) (bitsOf 6 i) x (fixedBits fs c) (Reads l c x)
@@ -251,7 +248,7 @@ numbered-right =
 
 numbered-back : (l : ℕ) (ns : List Numbered) → NumberedRight ns → (c : List ℕ) → (hyphened c ≡ false → Plain c) → (x : List Bool) → numberedBits ns c ≡ some x → Reads l c x
 unfolding numberedBits
-numbered-back l [] h c plain x e = no-bits (Reads l c x) x e
+numbered-back l [] h c plain x e = absurd (Option·none-ne-some x e)
 numbered-back l (n ∷ ns) h c plain x e =
     let b = bitsOf 6 (symOf (n .sym)) ++ bitsOf (n .width) (numberAt c 4 2 - n .low) in
     chosen (takes n c) b x (numberedBits ns c) (Reads l c x)
@@ -379,12 +376,10 @@ module _ (letters : List ℕ) (ssid : ℕ) (h : CleanCall letters ssid) where
   -- a clean call has bits, and they are read as the call, whatever follows
   pub token-back : (l : ℕ) → 6 ≤ l → Back l (callText letters ssid) (callText letters ssid)
   token-back l six =
-      let c = callText letters ssid in
       let f = clean-has l six in
-      let base : length (baseOf c) ≤ l = rw (call-base letters ssid (h .clean)) (omega (arith, h .few-letters)) in
       record {
         bits = f .0;
         coded = f .1;
-        size = token-size l l (omega arith) (omega arith) c base (f .0) (f .1);
+        size = token-size-call l (omega arith) letters ssid (omega (arith, h .few-letters)) (f .0) (f .1);
         read = f .2;
       }

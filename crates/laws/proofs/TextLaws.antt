@@ -1,12 +1,12 @@
 -- Texts: equality, membership and beginnings as tests, capitals; and tests over all numbers below a bound or all texts of a table.
 -- Assumes nothing.
-use mathlib.Core.Path.{_≡_, refl, sym, ap₂}
+use mathlib.Core.Path.{_≡_, refl, sym, ap, ap₂, _∙_}
 use mathlib.Core.Bool.{Bool, true, false, _&&_, false≢true}
 use mathlib.Core.List.{List, [], _∷_, _++_}
-use Prim.Native.Nat.{ℕ, zero, suc, _-_, _≤_, _<_}
-use native.Mathlib.Nat.{not-suc-le-zero}
+use Prim.Native.Nat.{ℕ, zero, suc, _-_, _≤_, _<_, suc-le-suc}
+use native.Mathlib.Nat.{not-suc-le-zero, le-of-suc-le-suc}
 use native.Mathlib.Omega.{arith}
-use lib.ListN.{length, drop}
+use lib.ListN.{length, getD, drop, length-append, List·getD-append}
 use lib.Dec.{eqb}
 use borrow.Author.Tests.{eqb-true, eq-eqb, le-leb, lt-leb}
 use Rattle.laws.specs.Pick.{pick}
@@ -63,7 +63,36 @@ unfolding starts
 starts-append [] t = refl
 starts-append (c ∷ w) t = rw (eq-eqb c c refl, starts-append w t)
 
+-- byte by byte
+pub starts-yes : (w s : List ℕ) → length w ≤ length s → ((i : ℕ) → i < length w → getD w i 0 ≡ getD s i 0) → starts w s ≡ true
+unfolding starts
+starts-yes [] s h f = refl
+starts-yes (c ∷ w) [] h f = absurd (not-suc-le-zero h)
+starts-yes (c ∷ w) (d ∷ s) h f =
+    rw (eq-eqb c d (f 0 (omega arith)), starts-yes w s (le-of-suc-le-suc h) (λ i k. f (suc i) (suc-le-suc k)))
+
+pub starts-not : (w s : List ℕ) (i : ℕ) → i < length w → (getD w i 0 ≡ getD s i 0 → ⊥) → starts w s ≡ false
+starts-not w s i h n =
+    by-test (starts w s)
+    (λ e. absurd (n (sym (ap (λ (t : List ℕ). getD t i 0) (starts-eq w s e) ∙ List·getD-append w (drop (length w) s) 0 i h))))
+    (λ e. e)
+
+pub starts-short : (w s : List ℕ) → length s < length w → starts w s ≡ false
+starts-short w s h =
+    by-test (starts w s)
+    (λ e. absurd (omega (arith, ap length (starts-eq w s e), length-append w (drop (length w) s))))
+    (λ e. e)
+
 -- ---- tables
+
+module _ (c n : List ℕ) (ns : List (List ℕ)) where
+  pub one-of-here : c ≡ n → isOneOf c (n ∷ ns) ≡ true
+  unfolding isOneOf
+  one-of-here e = rw (eq-same c n e)
+
+  pub one-of-next : (c ≡ n → ⊥) → isOneOf c (n ∷ ns) ≡ isOneOf c ns
+  unfolding isOneOf
+  one-of-next e = rw (ne-same c n e)
 
 -- a test over all texts of a table
 unfoldable pub each : (List ℕ → Bool) → List (List ℕ) → Bool

@@ -1,0 +1,78 @@
+-- Document 01's examples of tokens and one of each path, computed.
+-- Assumes nothing.
+use mathlib.Core.Path.{_≡_, refl}
+use mathlib.Core.Bool.{Bool, true, _&&_}
+use mathlib.Core.List.{List, [], _∷_, map}
+use mathlib.Core.Option.{Option, none, some}
+use Prim.Native.Nat.{ℕ}
+use Prim.Native.String.{String}
+use lib.Dec.{eqb}
+use Rattle.laws.specs.Bits.{odd, num, bitsOf, valueOf}
+use Rattle.laws.specs.Pick.{pick}
+use Rattle.laws.specs.Text.{ascii, between, upper, same, isOneOf, starts, later, position}
+use Rattle.bits.specs.Read.{letter, takeBits, takeText}
+use Rattle.bits.specs.Val.{stops, nextVal, valFrom, valOf}
+use Rattle.ax25_token.specs.Tables.{callAlphabet, long, symOf, alphaOf, wideTokens, wideRow, pairRows, pairTexts, fixedRows, numberedRows}
+use Rattle.ax25_token.specs.Token.{hyphened, baseOf, behind, numberAt, twoDigits, decimal, suffix, pairBits, pairsBits, fixedBits, takes, numberedBits, spell, ending, plainAp, apBits, spelledBits, orElse, tokenBits, after, pairForm, fixedForm, numberedForm, symbolForm, formOf, wideNumber, readPair, readNumber, letterOf, goOn, readLetters, readSpelled, readForm, readToken}
+
+-- ---- call length, call, bits
+
+codesAs : Option (List Bool) → List ℕ → Bool
+codesAs none t = same t (ascii "bad")
+codesAs (some b) t = same (map letter b) t
+
+codes : List (ℕ × String × String) → Bool
+codes [] = true
+codes (v ∷ vs) = codesAs (tokenBits (v .0) (ascii (v .1))) (ascii (v .2)) && codes vs
+
+coded : List (ℕ × String × String)
+coded =
+    (6, "WIDE1-1", "100101001")
+    ∷ (6, "WIDE2-2", "100101110")
+    ∷ (6, "PNW2-1", "10011011")
+    ∷ (6, "CQ", "101011")
+    ∷ (6, "CQ-1", "0000110100010000000001")
+    ∷ (6, "APIN35", "1011001111")
+    ∷ (6, "APIN36", "110100001001001110011110100001")
+    ∷ (6, "APRS", "110100010010010011000000")
+    ∷ (6, "APRS-3", "0000010100000100100100110000000011")
+    ∷ (6, "N0CALL-15", "0011100110110000110000010011000011001111")
+    ∷ (7, "N0CALL-15", "0011100110110000110000010011000011000000001111")
+    ∷ (6, "A-99", "0000010000000011")
+    ∷ (6, "cq", "0000110100010000000000")
+    ∷ (6, "APrs", "bad")
+    ∷ (6, "AB*", "bad")
+    ∷ []
+
+-- ---- call length, bits, call, bits left
+
+readsAs : Option (List ℕ × List Bool) → List ℕ → List ℕ → Bool
+readsAs none c r = same c (ascii "none")
+readsAs (some p) c r = same (p .0) c && same (map letter (p .1)) r
+
+reads : List (ℕ × String × String × String) → Bool
+reads [] = true
+reads (v ∷ vs) = readsAs (readToken (v .0) (map (λ x. eqb x 49) (ascii (v .1)))) (ascii (v .2)) (ascii (v .3)) && reads vs
+
+read : List (ℕ × String × String × String)
+read =
+    (6, "10010100101", "WIDE1-1", "01")
+    ∷ (6, "10010111001", "WIDE2-10", "01")
+    ∷ (6, "1001101101", "PNW2-1", "01")
+    ∷ (6, "10101101", "CQ", "01")
+    ∷ (6, "101100111101", "APIN35", "01")
+    ∷ (6, "11010001001001001100000001", "APRS", "01")
+    ∷ (6, "001110011011000011000001001100001100111101", "N0CALL-15", "01")
+    -- a blank first; a blank later ends the letters
+    ∷ (6, "000000001001000000000001", " I", "01")
+    -- a letter of 37 is skipped, and fatal in the AP form
+    ∷ (6, "000001100101000010000000101001", "AB-10", "01")
+    ∷ (6, "110100100101000010000000101001", "none", "")
+    -- no token, and too few bits
+    ∷ (6, "1101010000000000000000000000000000000000", "none", "")
+    ∷ (6, "000001000000111", "none", "")
+    ∷ []
+
+examples : (codes coded ≡ true) × (reads read ≡ true)
+unfolding codes codesAs coded reads readsAs read odd num bitsOf valueOf pick between upper same isOneOf starts later position takeBits takeText stops nextVal valFrom valOf callAlphabet long symOf alphaOf wideTokens wideRow pairRows pairTexts fixedRows numberedRows hyphened baseOf behind numberAt twoDigits decimal suffix pairBits pairsBits fixedBits takes numberedBits spell ending plainAp apBits spelledBits orElse tokenBits after pairForm fixedForm numberedForm symbolForm formOf wideNumber readPair readNumber letterOf goOn readLetters readSpelled readForm readToken
+examples = (refl, refl)
