@@ -1,4 +1,4 @@
--- The bodies of plain frames are read back, with zeros up to a whole byte behind them.
+-- The bodies of plain frames are read back, with zeros behind them, as many as there are.
 -- Assumes nothing.
 use mathlib.Core.Path.{_≡_}
 use mathlib.Core.Bool.{Bool, false, false≢true}

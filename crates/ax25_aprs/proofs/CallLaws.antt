@@ -1,83 +1,64 @@
 -- A clean call, filled up with blanks, is its own text again.
 -- Assumes nothing.
-use mathlib.Core.Path.{_≡_, refl, ap₂}
+use mathlib.Core.Path.{_≡_, refl}
 use mathlib.Core.Logic.{_⊎_, inl, inr}
 use mathlib.Core.Bool.{Bool, true, false, _&&_}
-use mathlib.Core.List.{List, [], _∷_, _++_, map}
-use Prim.Native.Nat.{ℕ, zero, suc, _≤_}
+use mathlib.Core.List.{List, [], _∷_, _++_}
+use Prim.Native.Nat.{ℕ, zero, suc, _≤_, _<_}
 use native.Mathlib.Nat.{not-suc-le-zero, le-of-suc-le-suc}
 use native.Mathlib.Omega.{arith}
 use lib.ListN.{length, length-append}
-use lib.Dec.{leb}
-use borrow.Author.Tests.{leb-true}
+use lib.Dec.{leb, ltb}
+use borrow.Author.Tests.{leb-true, ltb-true, lt-ltb}
 use Rattle.laws.specs.Pick.{pick}
-use Rattle.laws.specs.Text.{between, upper, filled}
+use Rattle.laws.specs.Text.{between, filled}
 use Rattle.laws.proofs.Cases.{and-left, and-right}
-use Rattle.laws.proofs.TextLaws.{below, at-each, upper-low}
-use Rattle.laws.proofs.TrimLaws.{between-yes, between-above, Solid, trim-filled}
+use Rattle.laws.proofs.TextLaws.{below, at-each}
+use Rattle.laws.proofs.TrimLaws.{between-above, Solid, trim-filled}
 use Rattle.ax25_token.specs.Token.{twoDigits, decimal, suffix}
 use Rattle.ax25_token.specs.Clean.{cleanLetters, callText, CleanCall}
-use Rattle.ax25_token.proofs.CleanLaws.{letter-or-digit, clean-first, clean-rest}
+use Rattle.ax25_token.proofs.CleanLaws.{letter-or-digit, clean-first, clean-rest, call-upper}
 use Rattle.ax25_address.specs.Address.{white}
 use Rattle.ax25_aprs.specs.Body.{callOf}
 
--- ---- bytes from '-' to 'Z', where all of a call's are
+-- ---- bytes above the blank, as all of a call's
 
-ofCall : List ℕ → Bool
-ofCall [] = true
-ofCall (x ∷ xs) = between 45 90 x && ofCall xs
+visible : List ℕ → Bool
+visible [] = true
+visible (x ∷ xs) = ltb 32 x && visible xs
 
-of-append : (s t : List ℕ) → ofCall s ≡ true → ofCall t ≡ true → ofCall (s ++ t) ≡ true
-unfolding ofCall
-of-append [] t e f = f
-of-append (x ∷ s) t e f =
-    rw (and-left (between 45 90 x) (ofCall s) e, of-append s t (and-right (between 45 90 x) (ofCall s) e) f)
+visible-append : (s t : List ℕ) → visible s ≡ true → visible t ≡ true → visible (s ++ t) ≡ true
+unfolding visible
+visible-append [] t e f = f
+visible-append (x ∷ s) t e f = rw (and-left (ltb 32 x) (visible s) e, visible-append s t (and-right (ltb 32 x) (visible s) e) f)
 
-of-letter : (x : ℕ) → ((65 ≤ x) × (x ≤ 90)) ⊎ ((48 ≤ x) × (x ≤ 57)) → between 45 90 x ≡ true
-of-letter x (inl h) = between-yes 45 90 x (omega arith) (omega arith)
-of-letter x (inr h) = between-yes 45 90 x (omega arith) (omega arith)
+visible-letter : (x : ℕ) → ((65 ≤ x) × (x ≤ 90)) ⊎ ((48 ≤ x) × (x ≤ 57)) → ltb 32 x ≡ true
+visible-letter x (inl h) = lt-ltb 32 x (omega arith)
+visible-letter x (inr h) = lt-ltb 32 x (omega arith)
 
-of-letters : (s : List ℕ) → cleanLetters s ≡ true → ofCall s ≡ true
-unfolding ofCall
-of-letters [] e = refl
-of-letters (x ∷ s) e = rw (of-letter x (letter-or-digit x (clean-first x s e)), of-letters s (clean-rest x s e))
+visible-letters : (s : List ℕ) → cleanLetters s ≡ true → visible s ≡ true
+unfolding visible
+visible-letters [] e = refl
+visible-letters (x ∷ s) e = rw (visible-letter x (letter-or-digit x (clean-first x s e)), visible-letters s (clean-rest x s e))
 
 -- (by a computed test over the SSIDs)
 fits : ℕ → Bool
-fits v = ofCall (suffix v) && leb (length (suffix v)) 3
+fits v = visible (suffix v) && leb (length (suffix v)) 3
 
 all-fit : below fits 16 ≡ true
-unfolding below fits ofCall between suffix decimal twoDigits pick
+unfolding below fits visible suffix decimal twoDigits pick
 all-fit = refl
 
-module _ (x : ℕ) (h : between 45 90 x ≡ true) where
-  of-low : 45 ≤ x
-  unfolding between
-  of-low = leb-true 45 x (and-left (leb 45 x) (leb x 90) h)
+-- none of them is trimmed
+not-white : (x : ℕ) → 32 < x → white x ≡ false
+unfolding white
+not-white x h = rw (between-above 9 13 x (omega arith) (omega arith), between-above 28 32 x (omega arith) h)
 
-  of-high : x ≤ 90
-  unfolding between
-  of-high = leb-true x 90 (and-right (leb 45 x) (leb x 90) h)
-
-  -- none of them is trimmed or changed
-  of-white : white x ≡ false
-  unfolding white
-  of-white = rw (between-above 9 13 x (omega (arith, of-low)) (omega (arith, of-low)), between-above 28 32 x (omega (arith, of-low)) (omega (arith, of-low)))
-
-  of-upper : upper x ≡ x
-  of-upper = upper-low x (omega (arith, of-high))
-
-of-solid : (s : List ℕ) → ofCall s ≡ true → Solid white s
-unfolding ofCall
-of-solid [] e i h = absurd (not-suc-le-zero h)
-of-solid (x ∷ s) e zero h = of-white x (and-left (between 45 90 x) (ofCall s) e)
-of-solid (x ∷ s) e (suc i) h = of-solid s (and-right (between 45 90 x) (ofCall s) e) i (le-of-suc-le-suc h)
-
-of-uppers : (s : List ℕ) → ofCall s ≡ true → map upper s ≡ s
-unfolding ofCall
-of-uppers [] e = refl
-of-uppers (x ∷ s) e =
-    ap₂ (λ (u : ℕ) (us : List ℕ). u ∷ us) (of-upper x (and-left (between 45 90 x) (ofCall s) e)) (of-uppers s (and-right (between 45 90 x) (ofCall s) e))
+visible-solid : (s : List ℕ) → visible s ≡ true → Solid white s
+unfolding visible
+visible-solid [] e i h = absurd (not-suc-le-zero h)
+visible-solid (x ∷ s) e zero h = not-white x (ltb-true 32 x (and-left (ltb 32 x) (visible s) e))
+visible-solid (x ∷ s) e (suc i) h = visible-solid s (and-right (ltb 32 x) (visible s) e) i (le-of-suc-le-suc h)
 
 white-32 : white 32 ≡ true
 unfolding white between
@@ -92,12 +73,14 @@ module _ (letters : List ℕ) (ssid : ℕ) (h : CleanCall letters ssid) where
   pub call-nine : length (callText letters ssid) ≤ 9
   unfolding callText fits
   call-nine =
-      omega (arith, length-append letters (suffix ssid), h .few-letters, leb-true (length (suffix ssid)) 3 (and-right (ofCall (suffix ssid)) (leb (length (suffix ssid)) 3) suffix-fits))
+      omega (arith, length-append letters (suffix ssid), h .few-letters, leb-true (length (suffix ssid)) 3 (and-right (visible (suffix ssid)) (leb (length (suffix ssid)) 3) suffix-fits))
 
-  call-of : ofCall (callText letters ssid) ≡ true
+  call-visible : visible (callText letters ssid) ≡ true
   unfolding callText fits
-  call-of = of-append letters (suffix ssid) (of-letters letters (h .clean)) (and-left (ofCall (suffix ssid)) (leb (length (suffix ssid)) 3) suffix-fits)
+  call-visible =
+      visible-append letters (suffix ssid) (visible-letters letters (h .clean)) (and-left (visible (suffix ssid)) (leb (length (suffix ssid)) 3) suffix-fits)
 
   pub call-filled : (n : ℕ) → callOf (filled n (callText letters ssid)) ≡ callText letters ssid
   unfolding callOf
-  call-filled n = rw (trim-filled white white-32 n (callText letters ssid) (of-solid (callText letters ssid) call-of)) (of-uppers (callText letters ssid) call-of)
+  call-filled n =
+      rw (trim-filled white white-32 n (callText letters ssid) (visible-solid (callText letters ssid) call-visible)) (call-upper letters ssid (h .clean) (h .small))
