@@ -62,7 +62,7 @@ pub plain-text : Plain (
     0x86 ∷ 0xA2 ∷ 0x40 ∷ 0x40 ∷ 0x40 ∷ 0x40 ∷ 0x60
     ∷ 0x96 ∷ 0x62 ∷ 0x82 ∷ 0x40 ∷ 0x40 ∷ 0x40 ∷ 0x61
     ∷ 0x03 ∷ 0xF0 ∷ ascii "A"
-)
+    )
 unfolding allTest cleanTest cleanLetters cleanLetter callText suffix decimal twoDigits isOneOf same misread addressField addressBytes filled pick starts below classifyOf anyHigh marksAt isPosition isTimestamped isMessage isDigit between
 plain-text =
     record {
@@ -85,7 +85,7 @@ pub plain-binary : Plain (
     ∷ 0x9C ∷ 0x60 ∷ 0x86 ∷ 0x82 ∷ 0x98 ∷ 0x98 ∷ 0x7E
     ∷ 0xAE ∷ 0x92 ∷ 0x88 ∷ 0x8A ∷ 0x62 ∷ 0x40 ∷ 0xE3
     ∷ 0x03 ∷ 0xF0 ∷ 0x80 ∷ 0x00 ∷ 0xFF ∷ []
-)
+    )
 unfolding allTest cleanTest cleanLetters cleanLetter callText suffix decimal twoDigits isOneOf same misread addressField addressBytes filled pick starts below classifyOf anyHigh marksAt isPosition isTimestamped isMessage isDigit between
 plain-binary =
     record {
@@ -109,7 +109,7 @@ pub plain-position : Plain (
     ∷ 0xAE ∷ 0x92 ∷ 0x88 ∷ 0x8A ∷ 0x62 ∷ 0x40 ∷ 0xE2
     ∷ 0xAE ∷ 0x92 ∷ 0x88 ∷ 0x8A ∷ 0x64 ∷ 0x40 ∷ 0x63
     ∷ 0x03 ∷ 0xF0 ∷ ascii "!4730.12N/12217.56W>PinPoint 40 m /A=001234 ack"
-)
+    )
 unfolding allTest cleanTest cleanLetters cleanLetter callText suffix decimal twoDigits isOneOf same misread addressField addressBytes filled pick starts below classifyOf anyHigh marksAt isPosition isTimestamped isMessage isDigit between
 plain-position =
     record {
@@ -131,7 +131,7 @@ pub plain-timestamped : Plain (
     0x82 ∷ 0xA0 ∷ 0xA4 ∷ 0xA6 ∷ 0x40 ∷ 0x40 ∷ 0x60
     ∷ 0x9C ∷ 0x60 ∷ 0x86 ∷ 0x82 ∷ 0x98 ∷ 0x98 ∷ 0x7F
     ∷ 0x03 ∷ 0xF0 ∷ ascii "@123456h4730.12N/12217.56W>PinPoint 40 m /A=001234 ack"
-)
+    )
 unfolding allTest cleanTest cleanLetters cleanLetter callText suffix decimal twoDigits isOneOf same misread addressField addressBytes filled pick starts below classifyOf anyHigh marksAt isPosition isTimestamped isMessage isDigit between
 plain-timestamped =
     record {
@@ -154,7 +154,7 @@ pub plain-message : Plain (
     ∷ 0x96 ∷ 0x62 ∷ 0x82 ∷ 0x40 ∷ 0x40 ∷ 0x40 ∷ 0x60
     ∷ 0xAE ∷ 0x92 ∷ 0x88 ∷ 0x8A ∷ 0x64 ∷ 0x40 ∷ 0x63
     ∷ 0x03 ∷ 0xF0 ∷ ascii ":N0CALL-12:VARA HF /A=001234"
-)
+    )
 unfolding allTest cleanTest cleanLetters cleanLetter callText suffix decimal twoDigits isOneOf same misread addressField addressBytes filled pick starts below classifyOf anyHigh marksAt isPosition isTimestamped isMessage isDigit between
 plain-message =
     record {

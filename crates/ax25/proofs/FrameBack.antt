@@ -156,7 +156,7 @@ module _ {d : List ℕ} (f : Plain d) where
   binary-body e out =
       let z = zeros (out ++ unpack (f .info)) in
       let whole : length (unpack (f .info) ++ replicate (z .0) false) / 8 ≡ length (f .info) =
-          omega (arith, length-append (unpack (f .info)) (replicate (z .0) false), length-unpack (f .info), length-replicate (z .0) false, z .1) in
+      omega (arith, length-append (unpack (f .info)) (replicate (z .0) false), length-unpack (f .info), length-replicate (z .0) false, z .1) in
       record {
         all = out ++ unpack (f .info);
         rest = unpack (f .info) ++ replicate (z .0) false;

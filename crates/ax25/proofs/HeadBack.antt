@@ -45,7 +45,6 @@ module _ (k : ℕ) (a : List ℕ) (names digis : List (List ℕ)) where
         name = a;
         number = rw e (omega arith);
         small = omega arith;
-       
         is-named = refl;
         calls = sym (all-eq digis (aliasCalls a 1 (length digis)) e);
       }

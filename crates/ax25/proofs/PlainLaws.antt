@@ -17,10 +17,10 @@ use Rattle.laws.specs.Pick.{pick}
 use Rattle.laws.specs.Text.{upper, filled}
 use Rattle.ax25_token.specs.Clean.{cleanLetters, callText, CleanCall}
 use Rattle.ax25_token.specs.Token.{suffix}
-use Rattle.ax25_token.proofs.CleanLaws.{clean-first, clean-rest}
+use Rattle.ax25_token.proofs.CleanLaws.{clean-lt, clean-first, clean-rest, call-upper}
 use Rattle.ax25_address.specs.Address.{addrCall, heardIn, double, cutTo, callBytes}
 use Rattle.ax25_address.specs.Parse.{Parsed, digiFields, parseOf}
-use Rattle.ax25_address.proofs.AddressLaws.{addressOf, clean-low, cut-filled, length-cut, field-call, call-field, upper-call}
+use Rattle.ax25_address.proofs.AddressLaws.{addressOf, cut-filled, length-cut, field-call, call-field}
 use Rattle.ax25_address.proofs.ParseLaws.{split-off}
 use Rattle.ax25.specs.Decode.{isEmpty, marked}
 use Rattle.ax25.specs.Plain.{Address, AllClean, twice, addressBytes, addressField, Plain}
@@ -81,7 +81,7 @@ unfolding double
 doubles [] zero e = refl
 doubles [] (suc k) e = ap (λ (t : List ℕ). 64 ∷ t) (doubles [] k e)
 doubles (x ∷ b) k e =
-    let s : x * 2 % 256 ≡ x * 2 = omega (arith, clean-low x (clean-first x b e)) in
+    let s : x * 2 % 256 ≡ x * 2 = omega (arith, clean-lt x (clean-first x b e)) in
     ap₂ (λ (u : ℕ) (us : List ℕ). u ∷ us) s (doubles b k (clean-rest x b e))
 
 module _ (a : Address) (ok : CleanCall (a .letters) (a .ssid)) where
@@ -111,7 +111,7 @@ module _ (a : Address) (ok : CleanCall (a .letters) (a .ssid)) where
   address-text : (last : Bool) → addrCall 6 (addressBytes a last) ≡ callText (a .letters) (a .ssid)
   address-text last =
       rw (field-is last)
-      (field-call 6 (a .letters) (a .ssid) (ssidByte (a .ssid) (a .heard) last) (ok .clean) (ok .some-letters) (ok .few-letters) (ssid-value (a .ssid) (ok .small) (a .heard) last))
+      (field-call 6 (a .letters) (a .ssid) (ssidByte (a .ssid) (a .heard) last) (ok .clean) (ok .few-letters) (ssid-value (a .ssid) (ok .small) (a .heard) last))
 
   pub address-marked : (last : Bool) → marked 6 (a .heard) last (callBytes 6 (callText (a .letters) (a .ssid))) ≡ addressBytes a last
   unfolding marked addressOf
@@ -179,7 +179,7 @@ texts-of [] ok = refl
 texts-of (a ∷ v) ok = ap₂ (λ (x : List ℕ) (xs : List (List ℕ)). x ∷ xs) (address-text a (ok .0) (isEmpty v)) (texts-of v (ok .1))
 
 text-upper : (a : Address) (last : Bool) → CleanCall (a .letters) (a .ssid) → map upper (addrCall 6 (addressBytes a last)) ≡ callText (a .letters) (a .ssid)
-text-upper a last ok = ap (map upper) (address-text a ok last) ∙ upper-call (a .letters) (a .ssid) ok
+text-upper a last ok = ap (map upper) (address-text a ok last) ∙ call-upper (a .letters) (a .ssid) (ok .clean) (ok .small)
 
 -- ---- the frame
 

@@ -1,25 +1,26 @@
 -- A clean call comes back through its address field.
 -- Assumes nothing.
 use mathlib.Core.Path.{_≡_, refl, ap, ap₂, _∙_}
-use mathlib.Core.Bool.{Bool, true, false, _&&_, _||_, not}
+use mathlib.Core.Bool.{Bool, true, false, _&&_}
 use mathlib.Core.List.{List, [], _∷_, _++_, map}
 use mathlib.Core.Logic.{⊎-elim}
 use Prim.Native.Nat.{ℕ, zero, suc, _+_, _-_, _*_, _/_, _%_, _≤_, _<_}
-use native.Mathlib.Nat.{not-suc-le-zero}
+use native.Mathlib.Nat.{not-suc-le-zero, le-of-suc-le-suc}
 use native.Mathlib.Omega.{arith}
 use lib.Bits.{bitOr}
 use lib.ListN.{length, take, getD, replicate, length-append, length-replicate, length-map, replicate-append-replicate}
 use lib.Seq.{take-at, getD-at, length-take-le, take-append-add}
 use lib.Dec.{eqb}
-use borrow.Author.Tests.{eqb-true, not-true}
+use borrow.Author.Tests.{eqb-true}
 use Rattle.laws.specs.Pick.{pick}
-use Rattle.laws.specs.Text.{ascii, between, isDigit, upper, same, starts, trimFront, keepOr, trimEnd, trim, filled}
-use Rattle.laws.proofs.Cases.{by-test, or-back}
-use Rattle.laws.proofs.TextLaws.{below, at-each, same-eq}
+use Rattle.laws.specs.Text.{ascii, between, upper, same, starts, filled}
+use Rattle.laws.proofs.Cases.{by-test}
+use Rattle.laws.proofs.TextLaws.{below, at-each}
+use Rattle.laws.proofs.TrimLaws.{between-above, Solid, trim-filled}
 use Rattle.bits.specs.Val.{stops, nextVal, valFrom, valOf}
-use Rattle.ax25_token.specs.Clean.{cleanLetter, cleanLetters, callText, CleanCall}
+use Rattle.ax25_token.specs.Clean.{cleanLetters, callText, CleanCall}
 use Rattle.ax25_token.specs.Token.{behind, twoDigits, decimal, suffix}
-use Rattle.ax25_token.proofs.CleanLaws.{letter-or-digit, clean-first, clean-rest, upper-clean, call-base, call-behind}
+use Rattle.ax25_token.proofs.CleanLaws.{letter-or-digit, clean-lt, clean-first, clean-rest, upper-clean, call-base, call-behind}
 use Rattle.ax25_address.specs.Address.{white, half, addrCall, double, cutTo, ssidOf, callBytes}
 
 abbrev blanks : ℕ → List ℕ
@@ -29,47 +30,18 @@ blanks k = replicate k 32
 unfoldable pub addressOf : ℕ → List ℕ → ℕ → List ℕ
 addressOf l letters e = map double (cutTo l letters) ++ (e ∷ [])
 
--- ---- letters are no white space, and below 5B
+-- ---- letters are no white space
 
-blackTest : ℕ → Bool
-blackTest x = not (cleanLetter x) || not (white x)
+pub not-white : (x : ℕ) → 32 < x → white x ≡ false
+unfolding white
+not-white x h = rw (between-above 9 13 x (omega arith) (omega arith), between-above 28 32 x (omega arith) h)
 
-all-black : below blackTest 91 ≡ true
-unfolding below blackTest cleanLetter white between isDigit
-all-black = refl
-
-pub clean-low : (x : ℕ) → cleanLetter x ≡ true → x < 91
-clean-low x e = ⊎-elim (λ h. omega arith) (λ h. omega arith) (letter-or-digit x e)
-
-implied : (a b : Bool) → a ≡ true → (not a || b) ≡ true → b ≡ true
-implied true b e f = f
-implied false b e f = absurd (let z : _≡_ {A = ℕ} 0 1 = cc in omega arith)
-
-clean-black : (x : ℕ) → cleanLetter x ≡ true → white x ≡ false
-unfolding blackTest
-clean-black x e = not-true (white x) (implied (cleanLetter x) (not (white x)) e (at-each blackTest 91 all-black x (clean-low x e)))
+letters-solid : (b : List ℕ) → cleanLetters b ≡ true → Solid white b
+letters-solid [] e i h = absurd (not-suc-le-zero h)
+letters-solid (x ∷ b) e zero h = not-white x (⊎-elim (λ q. omega arith) (λ q. omega arith) (letter-or-digit x (clean-first x b e)))
+letters-solid (x ∷ b) e (suc i) h = letters-solid b (clean-rest x b e) i (le-of-suc-le-suc h)
 
 -- ---- blanks behind the letters
-
-trim-blanks : (k : ℕ) → trimEnd white (blanks k) ≡ []
-unfolding trimEnd keepOr pick white between
-trim-blanks zero = refl
-trim-blanks (suc k) = rw (trim-blanks k)
-
-keep-letter : (x : ℕ) (xs : List ℕ) → white x ≡ false → keepOr (white x) x xs ≡ x ∷ xs
-unfolding keepOr pick
-keep-letter x [] e = rw e
-keep-letter x (y ∷ ys) e = refl
-
-trim-end : (b : List ℕ) (k : ℕ) → cleanLetters b ≡ true → trimEnd white (b ++ blanks k) ≡ b
-unfolding trimEnd
-trim-end [] k e = trim-blanks k
-trim-end (x ∷ b) k e = rw (trim-end b k (clean-rest x b e)) (keep-letter x b (clean-black x (clean-first x b e)))
-
-trim-letters : (b : List ℕ) (k : ℕ) → cleanLetters b ≡ true → 1 ≤ length b → trim white (b ++ blanks k) ≡ b
-unfolding trim trimFront pick
-trim-letters [] k e h = absurd (not-suc-le-zero h)
-trim-letters (x ∷ b) k e h = rw (clean-black x (clean-first x b e)) (trim-end (x ∷ b) k e)
 
 length-blanks : (n : ℕ) → length (blanks n) ≡ n
 length-blanks n = length-replicate {A = ℕ} n 32
@@ -100,7 +72,15 @@ halves-blank (suc k) = ap (λ (t : List ℕ). 32 ∷ t) (halves-blank k)
 halves : (b : List ℕ) (k : ℕ) → cleanLetters b ≡ true → map half (map double (b ++ blanks k)) ≡ b ++ blanks k
 halves [] k e = halves-blank k
 halves (x ∷ b) k e =
-    ap₂ (λ (u : ℕ) (us : List ℕ). u ∷ us) (half-double x (omega (arith, clean-low x (clean-first x b e)))) (halves b k (clean-rest x b e))
+    ap₂ (λ (u : ℕ) (us : List ℕ). u ∷ us) (half-double x (omega (arith, clean-lt x (clean-first x b e)))) (halves b k (clean-rest x b e))
+
+halves-filled : (l : ℕ) (b : List ℕ) → cleanLetters b ≡ true → map half (map double (filled l b)) ≡ filled l b
+unfolding filled
+halves-filled l b c = halves b (l - length b) c
+
+pub white-blank : white 32 ≡ true
+unfolding white between
+white-blank = refl
 
 -- ---- from the field to the call: the SSID byte may have its other bits set
 
@@ -108,12 +88,12 @@ pub length-cut : (l : ℕ) (b : List ℕ) → length (cutTo l b) ≡ l
 unfolding cutTo
 length-cut l b = length-take-le l (b ++ blanks l) (omega (arith, length-append b (blanks l), length-blanks l))
 
-pub field-call : (l : ℕ) (b : List ℕ) (s e : ℕ) → cleanLetters b ≡ true → 1 ≤ length b → length b ≤ l → e / 2 % 16 ≡ s
+pub field-call : (l : ℕ) (b : List ℕ) (s e : ℕ) → cleanLetters b ≡ true → length b ≤ l → e / 2 % 16 ≡ s
     → addrCall l (addressOf l b e) ≡ callText b s
-unfolding addrCall addressOf callText filled
-field-call l b s e c h k q =
+unfolding addrCall addressOf callText
+field-call l b s e c k q =
     let size : length (map double (cutTo l b)) ≡ l = length-map (cutTo l b) double ∙ length-cut l b in
-    rw (take-at (map double (cutTo l b)) (e ∷ []) l size, getD-at (map double (cutTo l b)) e [] 0 l size, q, cut-filled l b k, halves b (l - length b) c, trim-letters b (l - length b) c h)
+    rw (take-at (map double (cutTo l b)) (e ∷ []) l size, getD-at (map double (cutTo l b)) e [] 0 l size, q, cut-filled l b k, halves-filled l b c, trim-filled white white-blank l b (letters-solid b c))
 
 -- ---- from the call to the field
 
@@ -135,31 +115,7 @@ module _ (l : ℕ) (letters : List ℕ) (ssid : ℕ) (h : CleanCall letters ssid
   pub call-back : addrCall l (callBytes l (callText letters ssid)) ≡ callText letters ssid
   call-back =
       rw (call-field l letters ssid (h .clean) (h .small))
-      (field-call l letters ssid (0x60 + ssid * 2) (h .clean) (h .some-letters) (omega (arith, h .few-letters)) (omega (arith, h .small)))
-
--- ---- capitals
-
-pub upper-append : (s t : List ℕ) → map upper (s ++ t) ≡ map upper s ++ map upper t
-upper-append [] t = refl
-upper-append (x ∷ s) t = ap (λ (l : List ℕ). upper x ∷ l) (upper-append s t)
-
-suffixTest : ℕ → Bool
-suffixTest s = same (map upper (suffix s)) (suffix s)
-
-all-suffixes : below suffixTest 16 ≡ true
-unfolding below suffixTest same suffix decimal twoDigits upper between pick
-all-suffixes = refl
-
-pub upper-suffix : (ssid : ℕ) → ssid < 16 → map upper (suffix ssid) ≡ suffix ssid
-unfolding suffixTest
-upper-suffix ssid h = same-eq (map upper (suffix ssid)) (suffix ssid) (at-each suffixTest 16 all-suffixes ssid h)
-
--- a clean call's text is in capitals
-pub upper-call : (letters : List ℕ) (ssid : ℕ) → CleanCall letters ssid → map upper (callText letters ssid) ≡ callText letters ssid
-unfolding callText
-upper-call letters ssid h =
-    upper-append letters (suffix ssid)
-    ∙ ap₂ (λ (a b : List ℕ). a ++ b) (upper-clean letters (h .clean)) (upper-suffix ssid (h .small))
+      (field-call l letters ssid (0x60 + ssid * 2) (h .clean) (omega (arith, h .few-letters)) (omega (arith, h .small)))
 
 -- ---- what a call starts with
 

@@ -1,14 +1,14 @@
 -- The sizes of what a frame is parsed into.
 -- Assumes nothing.
-use mathlib.Core.Path.{_≡_, refl, sym, ap, _∙_}
+use mathlib.Core.Path.{_≡_, refl, sym, _∙_}
 use mathlib.Core.Bool.{Bool, true, false}
-use mathlib.Core.List.{List, [], _∷_, _++_, map}
+use mathlib.Core.List.{List, [], _∷_, _++_, map, map-append}
 use mathlib.Core.Option.{Option, none, some, Option·none-ne-some, Option·some-injective}
 use Prim.Native.Nat.{ℕ, zero, suc, _+_, _-_, _*_, _/_, _%_, _≤_, _<_}
 use native.Mathlib.Nat.{add-mul}
 use native.Mathlib.Omega.{arith}
 use lib.ListN.{length, take, drop, getD, length-append, length-map, length-take, length-drop}
-use lib.Dec.{leb, eqb}
+use lib.Dec.{leb}
 use borrow.Author.Tests.{leb-true}
 use Rattle.laws.specs.Bits.{odd}
 use Rattle.laws.specs.Pick.{pick, _>>=_}
@@ -16,20 +16,12 @@ use Rattle.laws.specs.Text.{upper, trim}
 use Rattle.laws.proofs.Cases.{by-test, from-some}
 use Rattle.laws.proofs.TrimLaws.{trim-le}
 use Rattle.ax25_token.specs.Token.{baseOf, suffix}
-use Rattle.ax25_token.proofs.CleanLaws.{suffix-base}
+use Rattle.ax25_token.proofs.CleanLaws.{upper-suffix}
+use Rattle.ax25_token.proofs.Hyphen.{base-suffix}
 use Rattle.ax25_address.specs.Address.{white, half, addrCall}
 use Rattle.ax25_address.specs.Parse.{splitOff, Parsed, digiFields, parseOf}
-use Rattle.ax25_address.proofs.AddressLaws.{upper-append, upper-suffix}
 
 -- ---- the letters of a parsed call
-
-base-append : (s t : List ℕ) → length (baseOf (s ++ t)) ≤ length s + length (baseOf t)
-unfolding baseOf pick
-base-append [] t = omega arith
-base-append (x ∷ s) t = by-test (eqb x 45) (λ e. rw e (omega arith)) (λ e. rw e (omega (arith, base-append s t)))
-
-base-le : (s : List ℕ) (k : ℕ) → length (baseOf (s ++ suffix k)) ≤ length s
-base-le s k = omega (arith, base-append s (suffix k), ap length (suffix-base k))
 
 module _ (l : ℕ) (a : List ℕ) where
   abbrev letters : List ℕ
@@ -40,14 +32,14 @@ module _ (l : ℕ) (a : List ℕ) where
 
   pub addr-base : length (baseOf (addrCall l a)) ≤ l
   unfolding addrCall
-  addr-base = omega (arith, base-le letters (getD a l 0 / 2 % 16), letters-le)
+  addr-base = omega (arith, base-suffix letters (getD a l 0 / 2 % 16), letters-le)
 
   pub upper-base : length (baseOf (map upper (addrCall l a))) ≤ l
   unfolding addrCall
   upper-base =
       let k = getD a l 0 / 2 % 16 in
-      rw (upper-append letters (suffix k), upper-suffix k (omega arith))
-      (omega (arith, base-le (map upper letters) k, length-map letters upper, letters-le))
+      rw (map-append upper letters (suffix k), upper-suffix k (omega arith))
+      (omega (arith, base-suffix (map upper letters) k, length-map letters upper, letters-le))
 
 -- ---- the lengths of the parts
 

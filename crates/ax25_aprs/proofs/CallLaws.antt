@@ -7,18 +7,20 @@ use mathlib.Core.List.{List, [], _∷_, _++_}
 use Prim.Native.Nat.{ℕ, zero, suc, _≤_, _<_}
 use native.Mathlib.Nat.{not-suc-le-zero, le-of-suc-le-suc}
 use native.Mathlib.Omega.{arith}
-use lib.ListN.{length, length-append}
-use lib.Dec.{leb, ltb}
-use borrow.Author.Tests.{leb-true, ltb-true, lt-ltb}
+use lib.ListN.{length}
+use lib.Dec.{ltb}
+use borrow.Author.Tests.{ltb-true, lt-ltb}
 use Rattle.laws.specs.Pick.{pick}
-use Rattle.laws.specs.Text.{between, filled}
+use Rattle.laws.specs.Text.{filled}
 use Rattle.laws.proofs.Cases.{and-left, and-right}
 use Rattle.laws.proofs.TextLaws.{below, at-each}
-use Rattle.laws.proofs.TrimLaws.{between-above, Solid, trim-filled}
+use Rattle.laws.proofs.TrimLaws.{Solid, trim-filled}
 use Rattle.ax25_token.specs.Token.{twoDigits, decimal, suffix}
 use Rattle.ax25_token.specs.Clean.{cleanLetters, callText, CleanCall}
 use Rattle.ax25_token.proofs.CleanLaws.{letter-or-digit, clean-first, clean-rest, call-upper}
+use Rattle.ax25_token.proofs.Sizes.{call-size}
 use Rattle.ax25_address.specs.Address.{white}
+use Rattle.ax25_address.proofs.AddressLaws.{not-white, white-blank}
 use Rattle.ax25_aprs.specs.Body.{callOf}
 
 -- ---- bytes above the blank, as all of a call's
@@ -42,45 +44,31 @@ visible-letters [] e = refl
 visible-letters (x ∷ s) e = rw (visible-letter x (letter-or-digit x (clean-first x s e)), visible-letters s (clean-rest x s e))
 
 -- (by a computed test over the SSIDs)
-fits : ℕ → Bool
-fits v = visible (suffix v) && leb (length (suffix v)) 3
+seen : ℕ → Bool
+seen v = visible (suffix v)
 
-all-fit : below fits 16 ≡ true
-unfolding below fits visible suffix decimal twoDigits pick
-all-fit = refl
+all-seen : below seen 16 ≡ true
+unfolding below seen visible suffix decimal twoDigits pick
+all-seen = refl
 
 -- none of them is trimmed
-not-white : (x : ℕ) → 32 < x → white x ≡ false
-unfolding white
-not-white x h = rw (between-above 9 13 x (omega arith) (omega arith), between-above 28 32 x (omega arith) h)
-
 visible-solid : (s : List ℕ) → visible s ≡ true → Solid white s
 unfolding visible
 visible-solid [] e i h = absurd (not-suc-le-zero h)
 visible-solid (x ∷ s) e zero h = not-white x (ltb-true 32 x (and-left (ltb 32 x) (visible s) e))
 visible-solid (x ∷ s) e (suc i) h = visible-solid s (and-right (ltb 32 x) (visible s) e) i (le-of-suc-le-suc h)
 
-white-32 : white 32 ≡ true
-unfolding white between
-white-32 = refl
-
 -- ---- a clean call
 
 module _ (letters : List ℕ) (ssid : ℕ) (h : CleanCall letters ssid) where
-  suffix-fits : fits ssid ≡ true
-  suffix-fits = at-each fits 16 all-fit ssid (h .small)
-
   pub call-nine : length (callText letters ssid) ≤ 9
-  unfolding callText fits
-  call-nine =
-      omega (arith, length-append letters (suffix ssid), h .few-letters, leb-true (length (suffix ssid)) 3 (and-right (visible (suffix ssid)) (leb (length (suffix ssid)) 3) suffix-fits))
+  call-nine = omega (arith, call-size letters ssid, h .few-letters)
 
   call-visible : visible (callText letters ssid) ≡ true
-  unfolding callText fits
-  call-visible =
-      visible-append letters (suffix ssid) (visible-letters letters (h .clean)) (and-left (visible (suffix ssid)) (leb (length (suffix ssid)) 3) suffix-fits)
+  unfolding callText seen
+  call-visible = visible-append letters (suffix ssid) (visible-letters letters (h .clean)) (at-each seen 16 all-seen ssid (h .small))
 
   pub call-filled : (n : ℕ) → callOf (filled n (callText letters ssid)) ≡ callText letters ssid
   unfolding callOf
   call-filled n =
-      rw (trim-filled white white-32 n (callText letters ssid) (visible-solid (callText letters ssid) call-visible)) (call-upper letters ssid (h .clean) (h .small))
+      rw (trim-filled white white-blank n (callText letters ssid) (visible-solid (callText letters ssid) call-visible)) (call-upper letters ssid (h .clean) (h .small))

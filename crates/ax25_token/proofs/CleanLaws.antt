@@ -157,7 +157,7 @@ unfolding ssidRight
 read-ssid s h =
     eqb-true (valOf (behind (suffix s))) s (and-left _ (same (map upper (suffix s)) (suffix s)) (at-each ssidRight 16 all-ssids s h))
 
-upper-suffix : (s : ℕ) → s < 16 → map upper (suffix s) ≡ suffix s
+pub upper-suffix : (s : ℕ) → s < 16 → map upper (suffix s) ≡ suffix s
 unfolding ssidRight
 upper-suffix s h =
     same-eq (map upper (suffix s)) (suffix s) (and-right (eqb (valOf (behind (suffix s))) s) _ (at-each ssidRight 16 all-ssids s h))
