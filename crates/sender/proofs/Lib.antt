@@ -1,4 +1,3 @@
 pub mod CountLaws
-pub mod Counts
 pub mod SendLaws
 pub mod SplitLaws
