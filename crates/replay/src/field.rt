@@ -1,4 +1,4 @@
-// The fields of a line, which single blanks part, and the numbers and bytes that they spell.
+// The fields of a line, which single blanks part, their pieces, and the numbers and bytes that they spell.
 ghost use Prim.Native.Nat.{_+_, _≤_};
 ghost use lib.ListN.{length};
 
@@ -29,28 +29,33 @@ pub fn find(s: &[u8], from: usize, b: u8) -> usize
     i
 }
 
-// Where the next field starts, or the end.
-fn next(line: &[u8], from: usize) -> usize
-    requires { ⌜ from ≤ length (now line) ⌝ }
-    ensures { λ r. ⌜ r ≤ length (now (line .entry)) ⌝ }
+// Where the next piece starts, or the end.
+fn next(s: &[u8], from: usize, b: u8) -> usize
+    requires { ⌜ from ≤ length (now s) ⌝ }
+    ensures { λ r. ⌜ r ≤ length (now (s .entry)) ⌝ }
 {
-    let e = find(line, from, b' ');
-    if e < line.len() {
+    let e = find(s, from, b);
+    if e < s.len() {
         return e + 1;
     }
     e
 }
 
-// A field, counted from 0, which is the kind; empty past the last.
-pub fn field(line: &[u8], k: usize) -> &[u8] {
+// A piece of what a byte parts, counted from 0; empty past the last.
+pub fn piece(s: &[u8], k: usize, b: u8) -> &[u8] {
     let mut at: usize = 0;
     let mut i: usize = 0;
     while i < k {
-        at = next(line, at);
+        at = next(s, at, b);
         i += 1;
     }
-    let e = find(line, at, b' ');
-    &line[at..e]
+    let e = find(s, at, b);
+    &s[at..e]
+}
+
+// A field of a line, counted from 0, which is the kind.
+pub fn field(line: &[u8], k: usize) -> &[u8] {
+    piece(line, k, b' ')
 }
 
 // How many fields a line has: one more than blanks. No line is long enough for the count to wrap.
@@ -149,6 +154,12 @@ pub fn hex(text: &[u8], out: &mut [u8]) -> Bytes
         good: digits(text, n, out),
         n: n,
     }
+}
+
+// Puts the bytes that a text spells into `out`, which they must fill.
+pub fn all_hex(text: &[u8], out: &mut [u8]) -> bool {
+    let read = hex(text, out);
+    read.good && read.n == out.len()
 }
 
 // Puts n bytes of two digits each into `out`. False where one is no digit.

@@ -2,18 +2,23 @@
 ghost use Prim.Native.Nat.{_≤_};
 ghost use lib.ListN.{length};
 use crate::answer::Outcome;
+use crate::answer::same_answer;
 use crate::answer::same_bytes;
+use crate::answer::same_counted;
 use crate::answer::same_got;
 use crate::answer::same_number;
 use crate::answer::same_taken;
+use crate::field::all_hex;
 use crate::field::field;
 use crate::field::fields;
 use crate::field::find;
 use crate::field::hex;
 use crate::field::numbers;
+use crate::history::history;
+use frame::Control;
 
 // How many kinds there are.
-pub const KINDS: usize = 8;
+pub const KINDS: usize = 12;
 
 // The name of a kind, with blanks behind it.
 fn name(kind: usize) -> [u8; 12] {
@@ -26,6 +31,10 @@ fn name(kind: usize) -> [u8; 12] {
         5 => *b"digits      ",
         6 => *b"text7       ",
         7 => *b"val         ",
+        8 => *b"count       ",
+        9 => *b"fragment    ",
+        10 => *b"frame       ",
+        11 => *b"history     ",
         _ => *b"            ",
     }
 }
@@ -41,6 +50,10 @@ pub fn run(kind: usize, line: &[u8]) -> Outcome {
         5 => digits(line),
         6 => text7(line),
         7 => val(line),
+        8 => count(line),
+        9 => fragment(line),
+        10 => frame(line),
+        11 => history(line),
         _ => Outcome::Bad,
     }
 }
@@ -249,4 +262,87 @@ fn val(line: &[u8]) -> Outcome {
     }
     let n = read.n;
     same_number(field(line, 2), bits::vb_val(&data[0..n]))
+}
+
+// count TOTAL FIELD ANSWER
+fn count(line: &[u8]) -> Outcome {
+    let mut v = [0u64; 2];
+    if !numbers(line, 4, &mut v) {
+        return Outcome::Bad;
+    }
+    same_counted(
+        field(line, 3),
+        sender::count_for_field(v[0] as usize, v[1] as usize),
+    )
+}
+
+// fragment FIELD K ROOM MASK HEX ANSWER: fragment K of a message, to an output of ROOM bytes
+fn fragment(line: &[u8]) -> Outcome {
+    let mut v = [0u64; 3];
+    if !numbers(line, 7, &mut v) {
+        return Outcome::Bad;
+    }
+    let mut mask = [0u8; 1];
+    if !all_hex(field(line, 4), &mut mask) {
+        return Outcome::Bad;
+    }
+    let mut out = io::large_buffer();
+    let room = v[2] as usize;
+    if out.len() < room {
+        return Outcome::Bad;
+    }
+    send(
+        line,
+        v[0] as usize,
+        v[1] as usize,
+        mask[0],
+        &mut out[0..room],
+    )
+}
+
+// Makes the call of a fragment line.
+fn send(line: &[u8], size: usize, k: usize, mask: u8, out: &mut [u8]) -> Outcome {
+    let mut message = io::large_buffer();
+    let read = hex(field(line, 5), &mut message);
+    if !read.good {
+        return Outcome::Bad;
+    }
+    let n = read.n;
+    let ours = sender::fragment(&message[0..n], size, mask, k, out);
+    same_answer(field(line, 6), out, ours)
+}
+
+// frame FIELD ROOM BYTES HEX ANSWER: the frame of a fragment, to an output of ROOM bytes; BYTES are reply, compressed, hint and marker
+fn frame(line: &[u8]) -> Outcome {
+    let mut v = [0u64; 2];
+    if !numbers(line, 6, &mut v) {
+        return Outcome::Bad;
+    }
+    let mut out = io::large_buffer();
+    let room = v[1] as usize;
+    if out.len() < room {
+        return Outcome::Bad;
+    }
+    build(line, v[0] as usize, &mut out[0..room])
+}
+
+// Makes the call of a frame line.
+fn build(line: &[u8], size: usize, out: &mut [u8]) -> Outcome {
+    let mut b = [0u8; 4];
+    if !all_hex(field(line, 3), &mut b) {
+        return Outcome::Bad;
+    }
+    let mut data = io::large_buffer();
+    let read = hex(field(line, 4), &mut data);
+    if !read.good {
+        return Outcome::Bad;
+    }
+    let n = read.n;
+    let control = Control {
+        reply: b[0],
+        compressed: b[1] != 0,
+        hint: b[2],
+    };
+    let ours = frame::build_frame(size, &data[0..n], control, b[3], out);
+    same_answer(field(line, 5), out, ours)
 }

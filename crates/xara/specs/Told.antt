@@ -1,11 +1,10 @@
 -- Document 01's number and values for each answer that crosses the C boundary.
 -- Assumes nothing.
-use mathlib.Core.Bool.{Bool, true, false, not}
+use mathlib.Core.Bool.{Bool, not}
 use mathlib.Core.List.{List}
 use Prim.Native.Nat.{ℕ}
 use lib.ListN.{take}
 use lib.Dec.{eqb}
-use Rattle.laws.specs.Bits.{num}
 use Rattle.laws.specs.Pick.{pick}
 use Rattle.refusals.specs.Outcome.{Outcome, refused, answer}
 use Rattle.frame.specs.declared.Control.{Control}

@@ -1,13 +1,22 @@
 // The library for C and Rust programs: one thin function for each public call. A slice crosses as a pointer and a length; structs cross by value.
 ghost use mathlib.Core.Path.{_≡_};
+ghost use mathlib.Core.List.{List};
+ghost use Prim.Native.Nat.{ℕ};
 ghost use Rattle.crc.specs.Crc.{crcOf};
-ghost use Rattle.refusals.specs.Outcome.{left, into};
+ghost use Rattle.refusals.specs.Outcome.{refused, answer, outcomeOf, left, into};
 ghost use Rattle.sender.specs.Send.{countFor, sendOf};
 ghost use Rattle.frame.specs.Frame.{buildOf};
-ghost use Rattle.receiver.specs.Join.{resetOf, joinOf};
+ghost use Rattle.receiver.specs.Join.{after, resetOf, joinOf};
 ghost use Rattle.receiver.specs.New.{newOf};
 ghost use Rattle.receiver.specs.Push.{pushOf};
-ghost use Rattle.xara.specs.Told.{told, controlOf, receiverOf, freshOf, afterOf};
+ghost use Rattle.xara.specs.Told.{flag, told, controlOf, receiverOf, freshOf, afterOf};
+use frame::Control;
+use receiver::Fresh;
+use receiver::Push;
+use receiver::Pushed;
+use receiver::Reassembler;
+use refusals::Answer;
+use sender::Counted;
 
 // ok with a length or a count, or a refusal's number.
 #[repr(C)]
@@ -52,6 +61,106 @@ pub struct XaraPushed {
     pub receiver: XaraReceiver,
 }
 
+// A flag as a byte.
+fn byte(b: bool) -> u8
+    ensures { λ r. ⌜ flag r ≡ b ⌝ }
+{
+    if b {
+        return 1;
+    }
+    0
+}
+
+fn with_refusal(refusal: u8) -> XaraAnswer
+    ensures { λ r. ⌜ told r ≡ refused refusal ⌝ }
+{
+    XaraAnswer {
+        ok: false,
+        refusal,
+        value: 0,
+    }
+}
+
+fn with_value(value: usize) -> XaraAnswer
+    ensures { λ r. ⌜ told r ≡ answer value ⌝ }
+{
+    XaraAnswer {
+        ok: true,
+        refusal: 0,
+        value,
+    }
+}
+
+// The answer of a call that writes bytes.
+fn said(answer: Answer) -> XaraAnswer
+    ensures { λ r. ⌜ told r ≡ outcomeOf answer ⌝ }
+{
+    match answer {
+        Answer::Refused(n) => with_refusal(n),
+        Answer::Bytes(n) => with_value(n),
+    }
+}
+
+// A receiver's state as the receiver has it, and back.
+fn read(receiver: XaraReceiver) -> Reassembler
+    ensures { λ r. ⌜ r ≡ receiverOf receiver ⌝ }
+{
+    Reassembler {
+        held: receiver.held,
+        nfrag: receiver.nfrag,
+        count: receiver.count,
+        crc_mask: receiver.crc_mask,
+        overflow: receiver.overflow != 0,
+    }
+}
+
+fn shown(receiver: Reassembler) -> XaraReceiver
+    ensures { λ r. ⌜ receiverOf r ≡ receiver ⌝ }
+{
+    XaraReceiver {
+        held: receiver.held,
+        nfrag: receiver.nfrag,
+        count: receiver.count,
+        crc_mask: receiver.crc_mask,
+        overflow: byte(receiver.overflow),
+    }
+}
+
+// What a push or a join answers.
+fn heard(pushed: Pushed) -> XaraPushed
+    ensures { λ r. ⌜ ((store : List ℕ) → afterOf r store ≡ after pushed store) ⌝ }
+{
+    let answer = pushed.answer;
+    let state = pushed.receiver;
+    let receiver = shown(state);
+    match answer {
+        Push::Refused(refusal) => XaraPushed {
+            kind: 0,
+            refusal,
+            length: 0,
+            receiver,
+        },
+        Push::Dropped => XaraPushed {
+            kind: 1,
+            refusal: 0,
+            length: 0,
+            receiver,
+        },
+        Push::More => XaraPushed {
+            kind: 2,
+            refusal: 0,
+            length: 0,
+            receiver,
+        },
+        Push::Done(length) => XaraPushed {
+            kind: 3,
+            refusal: 0,
+            length,
+            receiver,
+        },
+    }
+}
+
 // The CRC-16/GENIBUS of any bytes.
 #[no_mangle]
 pub extern "C" fn xara_crc16_genibus(data: &[u8]) -> u16
@@ -65,10 +174,9 @@ pub extern "C" fn xara_crc16_genibus(data: &[u8]) -> u16
 pub extern "C" fn xara_count_for_field(total: usize, field: usize) -> XaraAnswer
     ensures { λ r. ⌜ told r ≡ countFor total field ⌝ }
 {
-    XaraAnswer {
-        ok: false,
-        refusal: 8,
-        value: 0,
+    match sender::count_for_field(total, field) {
+        Counted::Refused(n) => with_refusal(n),
+        Counted::Count(n) => with_value(n),
     }
 }
 
@@ -83,11 +191,7 @@ pub extern "C" fn xara_fragment(
 ) -> XaraAnswer
     ensures { λ r. ⌜ left (told r) (now (out .exit)) ≡ into (sendOf (now (message .entry)) field mask k) (now (out .entry)) ⌝ }
 {
-    XaraAnswer {
-        ok: false,
-        refusal: 8,
-        value: 0,
-    }
+    said(sender::fragment(message, field, mask, k, out))
 }
 
 // The frame of a fragment.
@@ -101,11 +205,12 @@ pub extern "C" fn xara_build_frame(
 ) -> XaraAnswer
     ensures { λ r. ⌜ left (told r) (now (out .exit)) ≡ into (buildOf field (now («data» .entry)) (controlOf control) marker) (now (out .entry)) ⌝ }
 {
-    XaraAnswer {
-        ok: false,
-        refusal: 8,
-        value: 0,
-    }
+    let control = Control {
+        reply: control.reply,
+        compressed: control.compressed != 0,
+        hint: control.hint,
+    };
+    said(frame::build_frame(field, data, control, marker, out))
 }
 
 // A receiver that holds nothing.
@@ -113,15 +218,22 @@ pub extern "C" fn xara_build_frame(
 pub extern "C" fn xara_receiver_new(crc_mask: u8) -> XaraFresh
     ensures { λ r. ⌜ freshOf r ≡ newOf «crc_mask» ⌝ }
 {
-    XaraFresh {
-        ok: false,
-        refusal: 9,
-        receiver: XaraReceiver {
-            held: 0,
-            nfrag: 0,
-            count: 0,
-            crc_mask,
-            overflow: 0,
+    match Reassembler::with_crc_mask(crc_mask) {
+        Fresh::Refused(refusal) => XaraFresh {
+            ok: false,
+            refusal,
+            receiver: XaraReceiver {
+                held: 0,
+                nfrag: 0,
+                count: 0,
+                crc_mask,
+                overflow: 0,
+            },
+        },
+        Fresh::Ready(receiver) => XaraFresh {
+            ok: true,
+            refusal: 0,
+            receiver: shown(receiver),
         },
     }
 }
@@ -136,12 +248,7 @@ pub extern "C" fn xara_receiver_push(
 ) -> XaraPushed
     ensures { λ r. ⌜ afterOf r (now (store .exit)) ≡ pushOf (receiverOf receiver) (now (store .entry)) (now (frame .entry)) field ⌝ }
 {
-    XaraPushed {
-        kind: 1,
-        refusal: 0,
-        length: 0,
-        receiver,
-    }
+    heard(read(receiver).push(store, frame, field))
 }
 
 // A fragment: the n first bytes of f.
@@ -154,12 +261,7 @@ pub extern "C" fn xara_receiver_join(
 ) -> XaraPushed
     ensures { λ r. ⌜ afterOf r (now (store .exit)) ≡ joinOf (receiverOf receiver) (now (store .entry)) (now (f .entry)) n ⌝ }
 {
-    XaraPushed {
-        kind: 1,
-        refusal: 0,
-        length: 0,
-        receiver,
-    }
+    heard(read(receiver).join(store, f, n))
 }
 
 // Nothing held, fragments 0, no overflow.
@@ -167,5 +269,5 @@ pub extern "C" fn xara_receiver_join(
 pub extern "C" fn xara_receiver_reset(receiver: XaraReceiver) -> XaraReceiver
     ensures { λ r. ⌜ receiverOf r ≡ resetOf (receiverOf receiver) ⌝ }
 {
-    receiver
+    shown(read(receiver).reset())
 }

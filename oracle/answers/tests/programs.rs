@@ -49,7 +49,7 @@ fn the_recorded_file_is_well_formed() {
     let out = Command::new(env!("CARGO_BIN_EXE_record")).output().unwrap();
     assert!(out.status.success());
     let file = String::from_utf8(out.stdout).unwrap();
-    assert!(file.is_ascii() && file.ends_with('\n') && file.len() < 600_000);
+    assert!(file.is_ascii() && file.ends_with('\n') && file.len() < 1_000_000);
     for line in file.lines().filter(|line| !line.starts_with('#')) {
         assert!(line.split(' ').all(|word| !word.is_empty()), "{line}");
     }

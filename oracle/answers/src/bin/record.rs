@@ -1,13 +1,13 @@
 //! Writes the file of recorded answers that the program `replay` reads and compares with its own.
 
-use answers::bits;
 use answers::hex::to_hex;
 use answers::random::Random;
+use answers::{Answer, FIELDS, Receiver, bits};
 
 const SEED: u64 = 0x239A_C292_3920_2601;
 
 /// Every kind of line in the order of the file; each function writes one kind, with numbers of its own.
-const KINDS: [fn(&mut String); 8] = [crc, push, bfi, text, take, digits, text7, val];
+const KINDS: [fn(&mut String); 12] = [crc, push, bfi, text, take, digits, text7, val, count, fragment, frame, history];
 
 fn main() {
     let mut out = header();
@@ -22,7 +22,8 @@ fn header() -> String {
         "\
 # Answers of the unmodified Rust in oracle/, which the program replay compares with its own.
 # Each line is one call: its kind, what goes in, and last what came out of the Rust.
-# Numbers are decimal, bytes capital hexadecimal, - is no bytes, none is no answer (None in the Rust).
+# Numbers are decimal, bytes capital hexadecimal, - is no bytes, none is no answer (None in the Rust),
+# refused:N is a number of document 01's refusal table, whose refusals the Rust has only in part.
 # The inputs are edges written down by hand and, for the rest, drawn by a fixed generator, so that every
 # width, every length and every bit position within a byte appears; the comment before a kind says which.
 # Seed of the generator: {SEED:016X}
@@ -255,6 +256,394 @@ const WRITTEN_VALS: [&str; 24] = [
     "184467440737095516150",
     "99999999999999999999 1",
 ];
+
+fn count(out: &mut String) {
+    *out += "# count TOTAL FIELD ANSWER: around every length that takes another fragment, and outside the domain.\n";
+    for field in [3, 4, 5, 6, 17, 100, 255, 511, 512] {
+        for total in [0, 1, field - 1, field, field + 1, 4_999, 5_000, 5_001] {
+            count_line(out, total, field);
+        }
+        for count in [2, 3, 9, 10, 17, 18] {
+            count_line(out, (count * (field - 1)).min(5_000), field);
+            count_line(out, (count * (field - 1) + 1).min(5_001), field);
+        }
+    }
+    for field in [0, 1, 2, 513, 514, usize::MAX] {
+        for total in [0, 5_000, 5_001, usize::MAX] {
+            count_line(out, total, field);
+        }
+    }
+}
+
+fn count_line(out: &mut String, total: usize, field: usize) {
+    line!(out, "count", total, field, or_refused(answers::count(total, field)));
+}
+
+fn fragment(out: &mut String) {
+    *out += "\
+# fragment FIELD K ROOM MASK HEX ANSWER: fragment K, from 0, of a message, to an output of ROOM bytes. The source takes
+# more than 17 fragments under F0 and more than 9 under F8; the answer recorded there is the refusal of document 01.
+";
+    let mut r = Random::new(SEED, "fragment");
+    for (field, mask) in [(3, 0xF0), (3, 0xF8), (4, 0xF0), (4, 0xF8), (5, 0xF0), (7, 0xF8)] {
+        let most = most(mask);
+        for total in
+            [most * (field - 1), most * (field - 1) + 1, (most + 1) * (field - 1), (most + 1) * (field - 1) + 1]
+        {
+            every_fragment(out, &message(&mut r, total), field, mask);
+        }
+    }
+    for field in [3, 4, 5, 6, 8, 11, 16, 31] {
+        for total in [1, field - 1, field, field + 1, 2 * (field - 1), 2 * (field - 1) + 1, 3 * (field - 1) + 1] {
+            let message = message(&mut r, total);
+            let (k, mask) = (r.below(4), r.one_of(&[0xF0, 0xF8]));
+            for room in [0, field - 1, field, field + 1 + r.below(9)] {
+                fragment_line(out, &message, field, mask, k, room);
+            }
+            fragment_line(out, &message, field, mask, 0, message.len().min(field));
+        }
+    }
+    long_messages(out, &mut r);
+    refused_messages(out, &mut r);
+}
+
+/// Every fragment and one more.
+fn every_fragment(out: &mut String, message: &[u8], field: usize, mask: u8) {
+    let count = answers::count(message.len(), field).expect("a field and a length of the domain");
+    for k in 0..=count {
+        fragment_line(out, message, field, mask, k, field);
+    }
+}
+
+fn long_messages(out: &mut String, r: &mut Random) {
+    for (total, k) in [(511, 0), (512, 0), (513, 0), (513, 1), (1_022, 1), (5_000, 0), (5_000, 9), (5_001, 0)] {
+        fragment_line(out, &message(r, total), 512, 0xF0, k, 512);
+    }
+    fragment_line(out, &message(r, 4_600), 512, 0xF8, 9, 512);
+}
+
+/// One refusal after the other, and two at once.
+fn refused_messages(out: &mut String, r: &mut Random) {
+    let good = message(r, 6);
+    for field in [0, 1, 2, 513, usize::MAX] {
+        fragment_line(out, &good, field, 0xF0, 0, 512);
+    }
+    for mask in [0x00, 0x0F, 0xE0, 0xF1, 0xF4, 0xFC, 0xFF] {
+        fragment_line(out, &good, 5, mask, 0, 512);
+    }
+    fragment_line(out, &[], 5, 0xF0, 0, 512);
+    fragment_line(out, &[0x80], 5, 0xF0, 0, 512);
+    fragment_line(out, &[0xFF, 0x01], 5, 0xF8, 1, 0);
+    fragment_line(out, &[0x7F, 0x01], 5, 0xF8, 1, 0);
+    for k in [2, 3, usize::MAX] {
+        fragment_line(out, &good, 5, 0xF0, k, 0);
+    }
+    fragment_line(out, &[], 2, 0x00, 9, 0);
+    fragment_line(out, &[], 5, 0x00, 9, 0);
+    fragment_line(out, &[0x80; 40], 3, 0xF0, 99, 0);
+    fragment_line(out, &[0x40; 40], 3, 0xF0, 99, 0);
+    fragment_line(out, &[0x40; 30], 3, 0xF0, 99, 0);
+    fragment_line(out, &[0x40; 30], 3, 0xF0, 2, 0);
+}
+
+fn fragment_line(out: &mut String, message: &[u8], field: usize, mask: u8, k: usize, room: usize) {
+    let answer = expected_fragment(message, field, mask, k).and_then(|f| within(f, room));
+    line!(out, "fragment", field, k, room, to_hex(&[mask]), to_hex(message), or_refused(answer.map(|f| to_hex(&f))));
+}
+
+/// The source's fragment, after the refusals of document 01: 8, 9, 10, 2, 11, 12, 13.
+fn expected_fragment(message: &[u8], field: usize, mask: u8, k: usize) -> Result<Vec<u8>, u8> {
+    if !FIELDS.contains(&field) {
+        return Err(8);
+    }
+    if ![0xF0, 0xF8].contains(&mask) {
+        return Err(9);
+    }
+    let &first = message.first().ok_or(10)?;
+    let count = answers::count(message.len(), field)?;
+    if first >= 0x80 {
+        return Err(11);
+    }
+    if count > most(mask) {
+        return Err(12);
+    }
+    answers::split(message, field, mask).into_iter().nth(k).ok_or(13)
+}
+
+/// The most fragments under a mask: count - 2 must fit beside it.
+fn most(mask: u8) -> usize {
+    usize::from(255 - mask) + 2
+}
+
+/// 6 where there is no room.
+fn within(bytes: Vec<u8>, room: usize) -> Result<Vec<u8>, u8> {
+    if bytes.len() <= room { Ok(bytes) } else { Err(6) }
+}
+
+fn frame(out: &mut String) {
+    *out += "\
+# frame FIELD ROOM BYTES HEX ANSWER: the frame of a fragment, to an output of ROOM bytes; BYTES are reply, compressed,
+# hint and marker, a byte each. What document 01 refuses, the source frames: the refusal is recorded.
+";
+    let mut r = Random::new(SEED, "frame");
+    for field in 3..=16 {
+        for n in 0..=field + 1 {
+            let bytes = [r.below(4) as u8, r.below(2) as u8, r.below(8) as u8, r.byte()];
+            let room = field + 3 + [0, 0, 1, 7][r.below(4)];
+            frame_line(out, field, room, bytes, &r.bytes(n));
+        }
+    }
+    for reply in 0..=4 {
+        for hint in 0..=8 {
+            let bytes = [reply, r.below(2) as u8, hint, r.byte()];
+            frame_line(out, 3, 6, bytes, &r.bytes(2 + usize::from(hint & 1)));
+        }
+    }
+    for n in [1, 2, 6, 7, 8] {
+        for room in [0, 9, 10, 11, 12] {
+            frame_line(out, 8, room, [1, 0, 5, 0x01], &[0x14; 8][..n]);
+        }
+        frame_line(out, 8, 11, [1, 0xFF, 5, 0x14], &r.bytes(n));
+    }
+    for field in [0, 1, 2, 512, 513, usize::MAX] {
+        for n in [1, 511, 512, 513] {
+            frame_line(out, field, 600, [3, 1, 7, 0xFF], &r.bytes(n));
+        }
+    }
+    for (field, n, marker, reply, hint) in [(2, 0, 0x14, 9, 9), (5, 0, 0x14, 9, 9), (5, 1, 0x14, 9, 9), (5, 1, 0, 9, 9)]
+    {
+        frame_line(out, field, 0, [reply, 0, hint, marker], &r.bytes(n));
+    }
+    frame_line(out, 5, 0, [0, 0, 255, 0], &[0x41]);
+    frame_line(out, 5, 0, [255, 0, 0, 0], &[0x41]);
+    frame_line(out, 5, 7, [0, 0, 0, 0], &[0x41]);
+}
+
+fn frame_line(out: &mut String, field: usize, room: usize, bytes: [u8; 4], data: &[u8]) {
+    let answer = expected_frame(field, bytes, data).and_then(|f| within(f, room));
+    line!(out, "frame", field, room, to_hex(&bytes), to_hex(data), or_refused(answer.map(|f| to_hex(&f))));
+}
+
+/// The source's frame, after the refusals of document 01: 8, 14, 15, 16.
+fn expected_frame(field: usize, [reply, compressed, hint, marker]: [u8; 4], data: &[u8]) -> Result<Vec<u8>, u8> {
+    if !FIELDS.contains(&field) {
+        return Err(8);
+    }
+    if data.is_empty() || data.len() > field {
+        return Err(14);
+    }
+    if marker == 0x14 {
+        return Err(15);
+    }
+    if reply > 3 || hint > 7 {
+        return Err(16);
+    }
+    Ok(answers::frame(field, data, reply, compressed != 0, hint, marker))
+}
+
+fn history(out: &mut String) {
+    *out += "\
+# history MASK CALL CALL ..: a new receiver and calls on it in order. A call is p:FIELD:HEX=ANSWER, a push, j:N:HEX=ANSWER,
+# a join of the N first bytes, or r, a reset; an answer is dropped, more, done:HEX or refused:N.
+";
+    let mut r = Random::new(SEED, "history");
+    for mask in [0x00, 0x0F, 0xE0, 0xF7, 0xFF] {
+        line!(out, "history", to_hex(&[mask]), "refused:9");
+    }
+    for mask in [0xF0, 0xF8] {
+        whole_messages(out, mask, &mut r);
+        short_fragments(out, mask);
+        last_terminator(out, mask);
+        long_runs(out, mask, &mut r);
+        for _ in 0..60 {
+            faults(out, mask, &mut r);
+        }
+    }
+    many_bytes(out, &mut r);
+}
+
+/// A line of calls on one receiver, and the source's receiver that answers them.
+struct History {
+    line: String,
+    receiver: Receiver,
+}
+
+impl History {
+    fn new(mask: u8) -> Self {
+        History { line: format!("history {mask:02X}"), receiver: Receiver::new(mask) }
+    }
+
+    /// A push, with the refusal of document 01 where the field is outside the domain.
+    fn push(&mut self, field: usize, frame: &[u8]) {
+        let answer =
+            if FIELDS.contains(&field) { heard(self.receiver.push(frame, field)) } else { "refused:8".to_string() };
+        self.line += &format!(" p:{field}:{}={answer}", to_hex(frame));
+    }
+
+    fn join(&mut self, n: usize, f: &[u8]) {
+        let answer = heard(self.receiver.join(f, n));
+        self.line += &format!(" j:{n}:{}={answer}", to_hex(f));
+    }
+
+    fn reset(&mut self) {
+        self.receiver.reset();
+        self.line += " r";
+    }
+
+    /// All of a fragment, as a join.
+    fn fragment(&mut self, f: &[u8]) {
+        self.join(f.len(), f);
+    }
+
+    fn end(self, out: &mut String) {
+        *out += &(self.line + "\n");
+    }
+}
+
+fn heard(answer: Answer) -> String {
+    match answer {
+        Answer::Dropped => "dropped".to_string(),
+        Answer::More => "more".to_string(),
+        Answer::Done(message) => format!("done:{}", to_hex(&message)),
+    }
+}
+
+/// Messages of 1 to 20 fragments, one behind the other, by frames and by fragments.
+fn whole_messages(out: &mut String, mask: u8, r: &mut Random) {
+    for field in [3, 4, 5, 8, 13] {
+        let (mut pushes, mut joins) = (History::new(mask), History::new(mask));
+        for count in [1, 2, 3, 17, 18, 20] {
+            let total = count * (field - 1) - r.below(field - 1);
+            for f in answers::split(&message(r, total), field, mask) {
+                pushes.push(field, &framed(r, field, &f));
+                joins.fragment(&f);
+            }
+        }
+        pushes.end(out);
+        joins.end(out);
+    }
+}
+
+/// A More of one byte, with and without a second byte behind it, and fragments that are none.
+fn short_fragments(out: &mut String, mask: u8) {
+    let mut h = History::new(mask);
+    h.join(1, &[0xC1]);
+    h.join(1, &[0x41]);
+    h.join(1, &[0xC1, 0x05]);
+    h.join(1, &[0xC1]);
+    h.join(1, &[0x42]);
+    h.join(2, &[0xC1, 0x05]);
+    h.join(0, &[0x41]);
+    h.join(2, &[0x41]);
+    h.join(usize::MAX, &[0x41]);
+    h.join(0, &[]);
+    h.reset();
+    h.join(1, &[0x43]);
+    h.end(out);
+}
+
+/// The last 14 of the field is the end, wherever others stand; without one, and without bit 0 of control, nothing is heard.
+fn last_terminator(out: &mut String, mask: u8) {
+    let mut h = History::new(mask);
+    for data in [&[0x41, 0x14, 0x42][..], &[0x41, 0x14, 0x14], &[0x41, 0x14, 0x42, 0x14, 0x43]] {
+        for marker in [0x01, 0x14] {
+            h.push(7, &answers::frame(7, data, 0, false, 0, marker));
+        }
+    }
+    h.push(7, &answers::frame(7, &[0x41, 0x14, 0x42, 0x14, 0x43, 0x14, 0x44], 0, false, 0, 0x01));
+    h.push(5, &[0x41, 0x42, 0x14, 0x43, 0x44, 0x00, 0x00, 0x00]);
+    h.push(5, &[0x41, 0x42, 0x43, 0x44, 0x45, 0x00, 0x00, 0x00]);
+    h.push(5, &[0x14, 0x42, 0x43, 0x44, 0x45, 0x00, 0x00, 0x00]);
+    h.push(5, &[0x14, 0x42, 0x43, 0x44, 0x14, 0xFE, 0xFF, 0xFF]);
+    h.push(5, &[0x14, 0x42, 0x43, 0x44, 0x14, 0xFF, 0xFF, 0xFF]);
+    h.push(5, &[0x41, 0x42, 0x43, 0x44, 0x45, 0x14, 0x14, 0x14]);
+    h.end(out);
+}
+
+/// Up to 255 fragments make a message. The 256th is dropped: as a last one the receiver is clear, with More all up to the
+/// last is dropped. A message behind it shows which.
+fn long_runs(out: &mut String, mask: u8, r: &mut Random) {
+    for count in [254, 255, 256, 257, 260] {
+        let mut h = History::new(mask);
+        for f in answers::split(&message(r, 2 * count), 3, mask) {
+            h.fragment(&f);
+        }
+        h.fragment(&[0x41, 0x42]);
+        for f in answers::split(&message(r, 5), 3, mask) {
+            h.fragment(&f);
+        }
+        h.end(out);
+    }
+    let mut h = History::new(mask);
+    for f in answers::split(&message(r, 2 * 256), 3, mask) {
+        h.push(3, &answers::frame(3, &f, 0, false, 0, 0x01));
+    }
+    h.push(3, &answers::frame(3, &[0x41], 0, false, 0, 0x01));
+    h.end(out);
+}
+
+/// 5,000 bytes are a message, 5,001 are dropped: at the last fragment, and at one with More, after which all is dropped
+/// up to the last.
+fn many_bytes(out: &mut String, r: &mut Random) {
+    for (total, mask) in [(5_000, 0xF0), (5_001, 0xF0), (5_001, 0xF8)] {
+        let mut h = History::new(mask);
+        let mut fragments = answers::split(&message(r, total), 512, mask);
+        if mask == 0xF8 {
+            let last = fragments.last_mut().expect("a message that is not empty");
+            last[0] |= 0x80;
+            fragments.extend([vec![0xC1, 0x42], vec![0x41, 0x43]]);
+        }
+        for f in fragments {
+            h.fragment(&f);
+        }
+        h.fragment(&[0x41, 0x42]);
+        h.end(out);
+    }
+}
+
+/// Two messages whose frames come in turn, damaged, cut, left out, twice or with another field.
+fn faults(out: &mut String, mask: u8, r: &mut Random) {
+    let field = 3 + r.below(9);
+    let mut h = History::new(mask);
+    for _ in 0..3 {
+        let mut queues = [0, 1].map(|_| {
+            let total = 1 + r.below(5 * (field - 1));
+            answers::split(&message(r, total), field, mask).into_iter()
+        });
+        let other = r.below(3) == 0;
+        while let Some(f) = queues[usize::from(other && r.below(3) == 0)].next() {
+            let mut bytes = framed(r, field, &f);
+            match r.below(20) {
+                0 => bytes[r.below(field + 3)] ^= 1 << r.below(8),
+                1 => bytes.truncate(r.below(field + 3)),
+                2 => bytes.push(r.byte()),
+                3 => h.push(field, &bytes),
+                4 => continue,
+                5 => h.reset(),
+                6 => h.push([0, 2, 513, field + 1][r.below(4)], &bytes),
+                7 => h.join(1 + r.below(f.len()), &f),
+                _ => {}
+            }
+            h.push(field, &bytes);
+        }
+    }
+    h.end(out);
+}
+
+fn framed(r: &mut Random, field: usize, f: &[u8]) -> Vec<u8> {
+    answers::frame(field, f, r.below(4) as u8, r.below(2) == 0, r.below(8) as u8, r.byte())
+}
+
+/// Bytes with a first one below 80.
+fn message(r: &mut Random, total: usize) -> Vec<u8> {
+    let mut bytes = r.bytes(total);
+    bytes[0] &= 0x7F;
+    bytes
+}
+
+fn or_refused<T: ToString>(answer: Result<T, u8>) -> String {
+    answer.map_or_else(|refusal| format!("refused:{refusal}"), |value| value.to_string())
+}
 
 fn or_none<T: ToString>(answer: Option<T>) -> String {
     answer.map_or("none".to_string(), |value| value.to_string())

@@ -1,16 +1,16 @@
--- `replay::field::field` is safe and ends: after i fields the place is within the line.
+-- `replay::field::piece` is safe and ends: after i pieces the place is within the text.
 -- Assumes nothing.
 use borrow.Author.Needs.{needs}
 use Prim.Native.Nat.{_-_, _≤_}
 use lib.ListN.{length}
-use Rattle.replay.proofs.field.field.Statement.{statement}
-use Rattle.replay.proofs.field.field.Tie as tie
+use Rattle.replay.proofs.field.piece.Statement.{statement}
+use Rattle.replay.proofs.field.piece.Tie as tie
 
 abbrev Inv-loop : tie.InvT-loop
-Inv-loop line k at₀ i₀ at i = (i ≤ k) × (at ≤ length line)
+Inv-loop s k b at₀ i₀ at i = (i ≤ k) × (at ≤ length s)
 
 abbrev μ-loop : tie.MeasureT-loop
-μ-loop line k at₀ i₀ at i = k - i
+μ-loop s k b at₀ i₀ at i = k - i
 
 loop-holds : tie.Need-loop-holds Inv-loop μ-loop
 loop-holds c = search needs
@@ -42,8 +42,8 @@ part-result-end c = search needs
 returns : tie.Need-returns Inv-loop μ-loop
 returns c = search needs
 
-pub field-spec : {M : Type 1} → statement M
-field-spec =
+pub piece-spec : {M : Type 1} → statement M
+piece-spec =
     tie.close
     (tie.spec
     Inv-loop

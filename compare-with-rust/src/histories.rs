@@ -1,0 +1,240 @@
+//! Histories of pushes, joins and resets, and states that a caller makes up.
+
+use crate::calls::MASKS;
+use crate::receiver::Pair;
+use crate::tally::{Kind, Tally};
+use crate::xara::{self, Heard};
+use answers::MAX_MESSAGE;
+use answers::random::Random;
+
+/// A new receiver of any mask, and with an accepted one a history.
+pub fn history(r: &mut Random, tally: &mut Tally) {
+    let mask = if r.below(32) == 0 { r.byte() } else { r.one_of(&MASKS) };
+    let ours = xara::Receiver::new(mask);
+    let fresh = xara::Receiver { held: 0, nfrag: 0, count: 0, crc_mask: mask, overflow: 0 };
+    let expected = if MASKS.contains(&mask) { Ok(fresh) } else { Err(9) };
+    tally.compare(Kind::New, (expected, &[]), (ours, &[]), || format!("new a {mask:02X}"));
+    let Ok(ours) = ours else { return };
+    let mut pair = Pair::new(mask, ours, r.bytes(MAX_MESSAGE));
+    match r.below(16) {
+        0 => many_fragments(&mut pair, mask, r, tally),
+        1 => many_bytes(&mut pair, mask, r, tally),
+        2..6 => any_bytes(&mut pair, r, tally),
+        _ => traffic(&mut pair, mask, r, tally),
+    }
+    pair.state(tally);
+}
+
+/// Two senders whose frames come in turn, with faults among them.
+fn traffic(pair: &mut Pair, mask: u8, r: &mut Random, tally: &mut Tally) {
+    let mut senders = [Sender::new(mask, r), Sender::new(mask, r)];
+    let alone = r.below(2) == 0;
+    let faults = [0, 4, 16][r.below(3)];
+    for _ in 0..30 + r.below(90) {
+        let sender = &mut senders[if alone || r.below(4) > 0 { 0 } else { 1 }];
+        let fragment = sender.next(r);
+        if r.below(100) < faults {
+            fault(pair, fragment, sender.field, r, tally);
+        } else {
+            heard(pair, fragment, sender.field, r, tally);
+        }
+        sometimes_state(pair, r, tally);
+    }
+}
+
+/// 250 to 260 fragments of a few bytes, then a little traffic.
+fn many_fragments(pair: &mut Pair, mask: u8, r: &mut Random, tally: &mut Tally) {
+    let field = 3 + r.below(2);
+    let message = message((250 + r.below(11)) * (field - 1), r);
+    run(pair, answers::split(&message, field, mask), field, r, tally);
+    traffic(pair, mask, r, tally);
+}
+
+/// A message around 5,000 bytes, or far beyond, then a little traffic.
+fn many_bytes(pair: &mut Pair, mask: u8, r: &mut Random, tally: &mut Tally) {
+    let field = 21 + r.below(492);
+    let length = if r.below(4) > 0 { 4_997 + r.below(7) } else { 4_900 + r.below(800) };
+    let message = message(length, r);
+    run(pair, answers::split(&message, field, mask), field, r, tally);
+    traffic(pair, mask, r, tally);
+}
+
+/// All fragments in order, in one history of three with a rare fault.
+fn run(pair: &mut Pair, fragments: Vec<Vec<u8>>, field: usize, r: &mut Random, tally: &mut Tally) {
+    let faults = r.below(3) == 0;
+    for fragment in fragments {
+        if faults && r.below(100) == 0 {
+            fault(pair, fragment, field, r, tally);
+        } else {
+            heard(pair, fragment, field, r, tally);
+        }
+        if r.below(64) == 0 {
+            pair.state(tally);
+        }
+    }
+    pair.state(tally);
+}
+
+/// Frames and fragments of any bytes, of small fields.
+fn any_bytes(pair: &mut Pair, r: &mut Random, tally: &mut Tally) {
+    for _ in 0..60 {
+        let field = 3 + r.below(6);
+        let size = r.below(9);
+        let alphabets: [&[u8]; 3] = [&[0x14, 0x00, 0x80, 0x94], &[0x14, 0x41, 0xC1, 0x01], &[0xFF, 0x80, 0x7F, 0x14]];
+        let alphabet = alphabets[r.below(3)];
+        let mut drawn =
+            |n: usize| if r.below(2) == 0 { r.bytes(n) } else { (0..n).map(|_| r.one_of(alphabet)).collect() };
+        let (frame, f) = (drawn(field + 3), drawn(size));
+        match r.below(8) {
+            0..4 => pair.push(field, frame, tally),
+            4..7 => pair.join(r.below(size + 2), f, tally),
+            _ => pair.join(size, f, tally),
+        }
+        if r.below(40) == 0 {
+            pair.reset(tally);
+        }
+        pair.show_overflow(r.byte());
+        sometimes_state(pair, r, tally);
+    }
+}
+
+/// A sender's fragment, mostly in its frame.
+fn heard(pair: &mut Pair, fragment: Vec<u8>, field: usize, r: &mut Random, tally: &mut Tally) {
+    match r.below(4) {
+        0 => pair.join(fragment.len(), fragment, tally),
+        _ => pair.push(field, framed(&fragment, field, r), tally),
+    }
+}
+
+/// A fragment that comes damaged, cut, not at all or twice, in a frame of another length, with another field, or with
+/// something else in its place.
+fn fault(pair: &mut Pair, mut fragment: Vec<u8>, field: usize, r: &mut Random, tally: &mut Tally) {
+    let mut frame = framed(&fragment, field, r);
+    match r.below(14) {
+        0 => {}
+        1 => {
+            pair.push(field, frame.clone(), tally);
+            pair.push(field, frame, tally);
+        }
+        2 | 3 => {
+            for _ in 0..1 + r.below(3) {
+                let at = r.below(frame.len());
+                frame[at] ^= 1 << r.below(8);
+            }
+            pair.push(field, frame, tally);
+        }
+        4 => {
+            frame.truncate(r.below(frame.len()));
+            pair.push(field, frame, tally);
+        }
+        5 => {
+            let more = 1 + r.below(5);
+            frame.extend(r.bytes(more));
+            pair.push(field, frame, tally);
+        }
+        6 => pair.push([0, 1, 2, 513, 514, 515, usize::MAX, field + 1, field - 1][r.below(9)], frame, tally),
+        7 => {
+            let at = r.below(field);
+            frame[at] = 0x14;
+            pair.push(field, frame, tally);
+        }
+        8 => pair.join([0, fragment.len() + 1, usize::MAX][r.below(3)], fragment, tally),
+        9 => pair.join(1 + r.below(fragment.len()), fragment, tally),
+        10 => {
+            fragment.truncate(1);
+            fragment[0] |= 0x80;
+            pair.join(1, fragment, tally);
+        }
+        11 => pair.join(1, vec![0x80 | r.byte(), r.byte()], tally),
+        12 => {
+            fragment[0] ^= 0x80;
+            pair.push(field, framed(&fragment, field, r), tally);
+        }
+        _ => pair.reset(tally),
+    }
+    pair.show_overflow(r.byte());
+}
+
+/// The source's frame of a fragment; a marker of 14, which we refuse, is among those heard.
+fn framed(fragment: &[u8], field: usize, r: &mut Random) -> Vec<u8> {
+    let (reply, hint) = (r.below(4) as u8, r.below(8) as u8);
+    answers::frame(field, fragment, reply, r.below(2) == 0, hint, r.byte())
+}
+
+/// The state is slow to read where much is held.
+fn sometimes_state(pair: &Pair, r: &mut Random, tally: &mut Tally) {
+    if r.below(if pair.held() < 100 { 8 } else { 200 }) == 0 {
+        pair.state(tally);
+    }
+}
+
+/// Messages of any length, one after the other, in fragments of one field.
+struct Sender {
+    field: usize,
+    mask: u8,
+    fragments: Vec<Vec<u8>>,
+}
+
+impl Sender {
+    fn new(mask: u8, r: &mut Random) -> Self {
+        let field = if r.below(2) == 0 { 3 + r.below(8) } else { 3 + r.below(510) };
+        Sender { field, mask, fragments: Vec::new() }
+    }
+
+    /// The next fragment; a message takes 1 to 20 of them, and few messages many.
+    fn next(&mut self, r: &mut Random) -> Vec<u8> {
+        if let Some(fragment) = self.fragments.pop() {
+            return fragment;
+        }
+        let count = if r.below(4) == 0 { 1 + r.below(20) } else { 1 + r.below(5) };
+        let length = (1 + r.below(count * (self.field - 1))).min(MAX_MESSAGE);
+        self.fragments = answers::split(&message(length, r), self.field, self.mask);
+        self.fragments.reverse();
+        self.fragments.pop().expect("a message that is not empty")
+    }
+}
+
+/// Bytes with a first one below 80; among some, many are 14.
+fn message(length: usize, r: &mut Random) -> Vec<u8> {
+    let many = r.below(4) == 0;
+    let mut bytes = r.bytes(length);
+    for byte in &mut bytes {
+        if many && *byte & 1 == 0 {
+            *byte = 0x14;
+        }
+    }
+    bytes[0] &= 0x7F;
+    bytes
+}
+
+/// A state, a store and a call that are refused with 17, 9 or 8: nothing changes.
+pub fn made_up(r: &mut Random, tally: &mut Tally) {
+    let held = [0, 1, 4_999, 5_000, 5_001, usize::MAX, r.below(5_001)][r.below(7)];
+    let nfrag = [0, 1, 254, 255, 256, usize::MAX, r.below(256)][r.below(7)];
+    let crc_mask = if r.below(2) == 0 { r.byte() } else { r.one_of(&MASKS) };
+    let overflow = if r.below(2) == 0 { 0 } else { r.byte() };
+    let state = xara::Receiver { held, nfrag, count: r.byte(), crc_mask, overflow };
+    let size = [5_000, 5_000, 5_000, 0, 4_999, 5_001, r.below(6_000)][r.below(7)];
+    let field = [3, 512, 2, 513, usize::MAX][r.below(5)];
+    let pushed = r.below(2) == 0;
+    let Some(refusal) = refusal(state, size, pushed.then_some(field)) else { return };
+    let expected = r.bytes(size);
+    let mut store = expected.clone();
+    let f = r.bytes(8);
+    let (heard, after) =
+        if pushed { state.push(&mut store, &f, field) } else { state.join(&mut store, &f, r.below(10)) };
+    tally.compare(Kind::MadeUp, ((Heard::Refused(refusal), state), &expected), ((heard, after), &store), || {
+        format!("{state:?}\nstore of {size}, push {pushed}, field {field}")
+    });
+}
+
+/// Document 01's order: 17, 9, 8.
+fn refusal(state: xara::Receiver, size: usize, field: Option<usize>) -> Option<u8> {
+    if size != MAX_MESSAGE || state.held > MAX_MESSAGE || state.nfrag > 255 {
+        return Some(17);
+    }
+    if !MASKS.contains(&state.crc_mask) {
+        return Some(9);
+    }
+    field.filter(|field| !answers::FIELDS.contains(field)).map(|_| 8)
+}

@@ -1,0 +1,64 @@
+//! Runs the exported functions and the unmodified Rust on the same inputs for some seconds, and says where they differ.
+
+mod calls;
+mod histories;
+mod lent;
+mod receiver;
+mod tally;
+mod xara;
+
+use answers::random::Random;
+use std::process::ExitCode;
+use std::time::{Duration, Instant};
+use tally::Tally;
+
+const SEED: u64 = 1;
+
+/// Where this variable is set, the sender is expected to refuse as late as the source does: a wrong expectation, by
+/// which it can be seen that a difference is found.
+const WRONG: &str = "COMPARE_WRONG";
+
+/// The fields from 0 to 514 in an order that spreads them.
+const FIELDS: usize = 515;
+const STRIDE: usize = 211;
+
+fn main() -> ExitCode {
+    let mut words = std::env::args().skip(1).map(|word| word.parse::<u64>());
+    let (Some(Ok(seconds)), seed, None) = (words.next(), words.next().unwrap_or(Ok(SEED)), words.next()) else {
+        return usage();
+    };
+    let Ok(seed) = seed else { return usage() };
+    println!("seed {seed}");
+    let tally = run(Duration::from_secs(seconds), seed);
+    print!("{}", tally.table());
+    println!("{} compared, {} differ", tally.compared(), tally.differ());
+    if tally.differ() == 0 { ExitCode::SUCCESS } else { ExitCode::FAILURE }
+}
+
+fn usage() -> ExitCode {
+    eprintln!("usage: compare SECONDS [SEED]");
+    ExitCode::from(2)
+}
+
+fn run(time: Duration, seed: u64) -> Tally {
+    let began = Instant::now();
+    let mut r = Random::new(seed, "compare");
+    let mut tally = Tally::default();
+    let wrong = std::env::var_os(WRONG).is_some();
+    calls::all_counts(&mut tally);
+    let mut field = 0;
+    while began.elapsed() < time {
+        calls::fragments(field, wrong, &mut r, &mut tally);
+        calls::frames(field, &mut r, &mut tally);
+        field = (field + STRIDE) % FIELDS;
+        for _ in 0..10 {
+            calls::crc(&mut r, &mut tally);
+        }
+        for _ in 0..100 {
+            calls::some_count(&mut r, &mut tally);
+            histories::made_up(&mut r, &mut tally);
+            histories::history(&mut r, &mut tally);
+        }
+    }
+    tally
+}

@@ -1,0 +1,140 @@
+//! Compares what is expected with what our side did, and counts.
+
+use crate::xara::Heard;
+use std::fmt::Debug;
+
+/// What is compared: a call of each kind, and states.
+#[derive(Clone, Copy)]
+pub enum Kind {
+    Crc,
+    Count,
+    Fragment,
+    Frame,
+    New,
+    Push,
+    Join,
+    Reset,
+    State,
+    MadeUp,
+}
+
+const ROWS: [&str; 10] = [
+    "crc",
+    "count",
+    "fragment",
+    "frame",
+    "receiver new",
+    "receiver push",
+    "receiver join",
+    "receiver reset",
+    "receiver state",
+    "receiver made up",
+];
+
+/// How many differences are written out with their inputs.
+const SHOWN: u64 = 5;
+
+#[derive(Default)]
+pub struct Tally {
+    compared: [u64; ROWS.len()],
+    differ: [u64; ROWS.len()],
+    dropped: u64,
+    more: u64,
+    done: u64,
+}
+
+impl Tally {
+    /// An answer with the bytes that the call could write. The input is asked for only where they differ.
+    pub fn compare<T: PartialEq + Debug>(
+        &mut self,
+        kind: Kind,
+        expected: (T, &[u8]),
+        ours: (T, &[u8]),
+        input: impl FnOnce() -> String,
+    ) {
+        self.compared[kind as usize] += 1;
+        if expected == ours {
+            return;
+        }
+        self.differ[kind as usize] += 1;
+        if self.differ() <= SHOWN {
+            println!("{} differs", ROWS[kind as usize]);
+            println!("expected {:?}\nours     {:?}", expected.0, ours.0);
+            if let Some(place) = first_difference(expected.1, ours.1) {
+                println!("bytes differ from place {place} on");
+            }
+            println!("{}", input());
+        }
+    }
+
+    /// Counts what pushes and joins are expected to answer.
+    pub fn heard(&mut self, heard: Heard) {
+        match heard {
+            Heard::Dropped => self.dropped += 1,
+            Heard::More => self.more += 1,
+            Heard::Done(_) => self.done += 1,
+            Heard::Refused(_) | Heard::Unknown(_) => {}
+        }
+    }
+
+    pub fn compared(&self) -> u64 {
+        self.compared.iter().sum()
+    }
+
+    pub fn differ(&self) -> u64 {
+        self.differ.iter().sum()
+    }
+
+    /// A row for each kind, then what the receivers answered.
+    pub fn table(&self) -> String {
+        let mut text = String::new();
+        for (row, name) in ROWS.iter().enumerate() {
+            text += &format!("{name:<18}{:>12} compared", self.compared[row]);
+            if self.differ[row] > 0 {
+                text += &format!(", {} differ", self.differ[row]);
+            }
+            text += "\n";
+        }
+        text + &format!("pushes and joins: {} done, {} more, {} dropped\n", self.done, self.more, self.dropped)
+    }
+}
+
+/// The first place where two lists of bytes are not the same.
+fn first_difference(a: &[u8], b: &[u8]) -> Option<usize> {
+    let common = a.iter().zip(b).position(|(x, y)| x != y);
+    common.or((a.len() != b.len()).then(|| a.len().min(b.len())))
+}
+
+#[cfg(test)]
+mod tests {
+    use super::*;
+
+    fn differ(expected: (u8, &[u8]), ours: (u8, &[u8])) -> u64 {
+        let mut tally = Tally::default();
+        tally.compare(Kind::Crc, expected, ours, String::new);
+        assert_eq!(tally.compared(), 1);
+        tally.differ()
+    }
+
+    #[test]
+    fn equal() {
+        assert_eq!(differ((1, &[2, 3]), (1, &[2, 3])), 0);
+    }
+
+    #[test]
+    fn another_answer() {
+        assert_eq!(differ((1, &[2, 3]), (0, &[2, 3])), 1);
+    }
+
+    #[test]
+    fn another_last_byte() {
+        assert_eq!(differ((1, &[2, 3]), (1, &[2, 4])), 1);
+        assert_eq!(first_difference(&[2, 3], &[2, 4]), Some(1));
+    }
+
+    #[test]
+    fn a_byte_too_many() {
+        assert_eq!(differ((1, &[2]), (1, &[2, 3])), 1);
+        assert_eq!(first_difference(&[2], &[2, 3]), Some(1));
+    }
+}

@@ -1,0 +1,106 @@
+// A history of calls on one receiver, all in one line.
+ghost use mathlib.Core.Path.{_≡_};
+ghost use lib.ListN.{length};
+use crate::answer::Outcome;
+use crate::answer::same_heard;
+use crate::answer::same_refusal;
+use crate::field::Number;
+use crate::field::all_hex;
+use crate::field::decimal;
+use crate::field::field;
+use crate::field::fields;
+use crate::field::hex;
+use crate::field::piece;
+use receiver::Fresh;
+use receiver::Pushed;
+use receiver::Reassembler;
+
+// What comes of a call, and the receiver that it leaves.
+struct Step {
+    outcome: Outcome,
+    receiver: Reassembler,
+}
+
+// history MASK CALL CALL ..: a new receiver, and calls in order; where the mask is refused, the refusal stands for them
+pub fn history(line: &[u8]) -> Outcome {
+    let mut mask = [0u8; 1];
+    if !all_hex(field(line, 1), &mut mask) {
+        return Outcome::Bad;
+    }
+    match Reassembler::with_crc_mask(mask[0]) {
+        Fresh::Refused(n) => same_refusal(field(line, 2), n),
+        Fresh::Ready(receiver) => calls(line, receiver),
+    }
+}
+
+// The receiver's store. The contract gives only the length, so that no caller's proof unfolds the array.
+fn store() -> [u8; 5000]
+    ensures { λ r. ⌜ 5000 ≡ length r ⌝ }
+{
+    [0; 5000]
+}
+
+// Makes every call of a line, up to the first whose answer is not the recorded one.
+fn calls(line: &[u8], receiver: Reassembler) -> Outcome {
+    let mut space = store();
+    let mut state = receiver;
+    let n = fields(line);
+    let mut i: usize = 2;
+    while i < n {
+        let step = call(state, &mut space, field(line, i));
+        let outcome = step.outcome;
+        let next = step.receiver;
+        match outcome {
+            Outcome::Equal => state = next,
+            Outcome::Differ => return Outcome::Differ,
+            Outcome::Bad => return Outcome::Bad,
+        }
+        i += 1;
+    }
+    Outcome::Equal
+}
+
+// One call: p:FIELD:HEX=ANSWER is a push, j:N:HEX=ANSWER a join, r a reset.
+fn call(receiver: Reassembler, space: &mut [u8], text: &[u8]) -> Step {
+    let what = piece(text, 0, b'=');
+    let kind = piece(what, 0, b':');
+    if check::same(kind, b"r") {
+        return Step {
+            outcome: Outcome::Equal,
+            receiver: receiver.reset(),
+        };
+    }
+    let bad = Step {
+        outcome: Outcome::Bad,
+        receiver,
+    };
+    let mut data = io::large_buffer();
+    let read = hex(piece(what, 2, b':'), &mut data);
+    if !read.good {
+        return bad;
+    }
+    let size = read.n;
+    let Number::Is(n) = decimal(piece(what, 1, b':')) else {
+        return bad;
+    };
+    let answer = piece(text, 1, b'=');
+    if check::same(kind, b"p") {
+        let pushed = receiver.push(space, &data[0..size], n as usize);
+        return told(answer, space, pushed);
+    }
+    if check::same(kind, b"j") {
+        let pushed = receiver.join(space, &data[0..size], n as usize);
+        return told(answer, space, pushed);
+    }
+    bad
+}
+
+// What came of a push or a join.
+fn told(text: &[u8], space: &[u8], pushed: Pushed) -> Step {
+    let answer = pushed.answer;
+    let receiver = pushed.receiver;
+    Step {
+        outcome: same_heard(text, space, answer),
+        receiver,
+    }
+}
