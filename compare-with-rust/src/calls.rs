@@ -5,14 +5,7 @@ use crate::tally::{Kind, Tally};
 use crate::xara;
 use answers::hex::to_hex;
 use answers::random::Random;
-use answers::{FIELDS, MAX_MESSAGE};
-
-pub const MASKS: [u8; 2] = [0xF0, 0xF8];
-
-/// The most fragments under a mask: count - 2 must fit beside it.
-fn most(mask: u8, wrong: bool) -> usize {
-    usize::from(255 - mask) + if wrong { 3 } else { 2 }
-}
+use answers::{FIELDS, MASKS, MAX_MESSAGE, most};
 
 pub fn crc(r: &mut Random, tally: &mut Tally) {
     let n = r.below(6001);
@@ -67,7 +60,7 @@ fn lengths(field: usize, mask: u8, r: &mut Random) -> Vec<usize> {
     let mut list =
         vec![0, 1, 2, field.saturating_sub(1), field, field + 1, MAX_MESSAGE, MAX_MESSAGE + 1, r.below(5001)];
     if MASKS.contains(&mask) && FIELDS.contains(&field) {
-        for count in 1..=most(mask, false) + 2 {
+        for count in 1..=most(mask) + 2 {
             list.extend([count * (field - 1), count * (field - 1) + 1]);
         }
     }
@@ -77,7 +70,7 @@ fn lengths(field: usize, mask: u8, r: &mut Random) -> Vec<usize> {
 
 /// Every fragment of a message and some behind the last, with outputs that are too short, exact and longer.
 fn fragments_of(message: &[u8], field: usize, mask: u8, wrong: bool, r: &mut Random, tally: &mut Tally) {
-    let split = split(message, field, mask, wrong);
+    let split = answers::sent(message, field, mask, most(mask) + usize::from(wrong));
     let count = split.as_ref().map_or(1, Vec::len);
     for k in (0..count + 2).chain([r.number() as usize, usize::MAX]) {
         let expected = match &split {
@@ -89,25 +82,6 @@ fn fragments_of(message: &[u8], field: usize, mask: u8, wrong: bool, r: &mut Ran
             fragment(message, field, mask, k, expected, Lent::new(r, room), tally);
         }
     }
-}
-
-/// The source's fragments, after the refusals of document 01 that come before 13: 8, 9, 10, 2, 11, 12.
-fn split(message: &[u8], field: usize, mask: u8, wrong: bool) -> Result<Vec<Vec<u8>>, u8> {
-    if !FIELDS.contains(&field) {
-        return Err(8);
-    }
-    if !MASKS.contains(&mask) {
-        return Err(9);
-    }
-    let &first = message.first().ok_or(10)?;
-    let count = answers::count(message.len(), field)?;
-    if first >= 0x80 {
-        return Err(11);
-    }
-    if count > most(mask, wrong) {
-        return Err(12);
-    }
-    Ok(answers::split(message, field, mask))
 }
 
 fn fragment(
@@ -147,7 +121,7 @@ fn frame(field: usize, control: xara::Control, r: &mut Random, tally: &mut Tally
     let marker = if r.below(8) == 0 { 0x14 } else { r.byte() };
     let room = [0, near + 2, near + 3, near + 3, near + 4, near + r.below(40)][r.below(6)];
     let mut out = Lent::new(r, room);
-    let expected = framed(field, &data, control, marker);
+    let expected = answers::framed(field, &data, control.reply, control.compressed != 0, control.hint, marker);
     let (answer, bytes) = out.after(expected.as_ref().map(Vec::as_slice).map_err(|&refusal| refusal));
     let ours = xara::frame(field, &data, control, marker, out.part());
     tally.compare(Kind::Frame, (answer, &bytes), (ours, &out.bytes), || {
@@ -156,21 +130,4 @@ fn frame(field: usize, control: xara::Control, r: &mut Random, tally: &mut Tally
         let data = to_hex(&data);
         format!("frame {field} {reply} {compressed} {hint} {marker:02X} {data}\n{}", out.told())
     });
-}
-
-/// The source's frame, after the refusals of document 01: 8, 14, 15, 16.
-fn framed(field: usize, data: &[u8], control: xara::Control, marker: u8) -> Result<Vec<u8>, u8> {
-    if !FIELDS.contains(&field) {
-        return Err(8);
-    }
-    if data.is_empty() || data.len() > field {
-        return Err(14);
-    }
-    if marker == 0x14 {
-        return Err(15);
-    }
-    if control.reply > 3 || control.hint > 7 {
-        return Err(16);
-    }
-    Ok(answers::frame(field, data, control.reply, control.compressed != 0, control.hint, marker))
 }

@@ -1,9 +1,9 @@
 //! Histories of pushes, joins and resets, and states that a caller makes up.
 
-use crate::calls::MASKS;
 use crate::receiver::Pair;
 use crate::tally::{Kind, Tally};
 use crate::xara::{self, Heard};
+use answers::MASKS;
 use answers::MAX_MESSAGE;
 use answers::random::Random;
 

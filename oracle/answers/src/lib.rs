@@ -84,6 +84,50 @@ pub fn frame(field: usize, data: &[u8], reply: u8, compressed: bool, hint: u8, m
     build_frame(field + 3, data, Control { reply, compressed, hint }, None, marker)
 }
 
+/// The masks that a sender and a receiver take.
+pub const MASKS: [u8; 2] = [0xF0, 0xF8];
+
+/// The most fragments under a mask: count - 2 must fit beside it.
+pub fn most(mask: u8) -> usize {
+    usize::from(255 - mask) + 2
+}
+
+/// All fragments that the sender hands out, or the first of document 01's refusals before 13: 8, 9, 10, 2, 11, 12.
+pub fn sent(message: &[u8], field: usize, mask: u8, most: usize) -> Result<Vec<Vec<u8>>, u8> {
+    if !FIELDS.contains(&field) {
+        return Err(BAD_FIELD);
+    }
+    if !MASKS.contains(&mask) {
+        return Err(9);
+    }
+    let &first = message.first().ok_or(10)?;
+    let count = count(message.len(), field)?;
+    if first >= 0x80 {
+        return Err(11);
+    }
+    if count > most {
+        return Err(12);
+    }
+    Ok(split(message, field, mask))
+}
+
+/// The frame of a fragment, or the first of document 01's refusals before 6: 8, 14, 15, 16.
+pub fn framed(field: usize, data: &[u8], reply: u8, compressed: bool, hint: u8, marker: u8) -> Result<Vec<u8>, u8> {
+    if !FIELDS.contains(&field) {
+        return Err(BAD_FIELD);
+    }
+    if data.is_empty() || data.len() > field {
+        return Err(14);
+    }
+    if marker == 0x14 {
+        return Err(15);
+    }
+    if reply > 3 || hint > 7 {
+        return Err(16);
+    }
+    Ok(frame(field, data, reply, compressed, hint, marker))
+}
+
 /// The command, where it and the length of the data are accepted.
 fn accepted(command: u8, data: &[u8]) -> Result<Command, u8> {
     let command = Command::from_byte(command).ok_or(BAD_COMMAND)?;

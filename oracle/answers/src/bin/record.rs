@@ -286,7 +286,7 @@ fn fragment(out: &mut String) {
 ";
     let mut r = Random::new(SEED, "fragment");
     for (field, mask) in [(3, 0xF0), (3, 0xF8), (4, 0xF0), (4, 0xF8), (5, 0xF0), (7, 0xF8)] {
-        let most = most(mask);
+        let most = answers::most(mask);
         for total in
             [most * (field - 1), most * (field - 1) + 1, (most + 1) * (field - 1), (most + 1) * (field - 1) + 1]
         {
@@ -347,32 +347,9 @@ fn refused_messages(out: &mut String, r: &mut Random) {
 }
 
 fn fragment_line(out: &mut String, message: &[u8], field: usize, mask: u8, k: usize, room: usize) {
-    let answer = expected_fragment(message, field, mask, k).and_then(|f| within(f, room));
+    let fragments = answers::sent(message, field, mask, answers::most(mask));
+    let answer = fragments.and_then(|all| all.into_iter().nth(k).ok_or(13)).and_then(|f| within(f, room));
     line!(out, "fragment", field, k, room, to_hex(&[mask]), to_hex(message), or_refused(answer.map(|f| to_hex(&f))));
-}
-
-/// The source's fragment, after the refusals of document 01: 8, 9, 10, 2, 11, 12, 13.
-fn expected_fragment(message: &[u8], field: usize, mask: u8, k: usize) -> Result<Vec<u8>, u8> {
-    if !FIELDS.contains(&field) {
-        return Err(8);
-    }
-    if ![0xF0, 0xF8].contains(&mask) {
-        return Err(9);
-    }
-    let &first = message.first().ok_or(10)?;
-    let count = answers::count(message.len(), field)?;
-    if first >= 0x80 {
-        return Err(11);
-    }
-    if count > most(mask) {
-        return Err(12);
-    }
-    answers::split(message, field, mask).into_iter().nth(k).ok_or(13)
-}
-
-/// The most fragments under a mask: count - 2 must fit beside it.
-fn most(mask: u8) -> usize {
-    usize::from(255 - mask) + 2
 }
 
 /// 6 where there is no room.
@@ -420,25 +397,9 @@ fn frame(out: &mut String) {
 }
 
 fn frame_line(out: &mut String, field: usize, room: usize, bytes: [u8; 4], data: &[u8]) {
-    let answer = expected_frame(field, bytes, data).and_then(|f| within(f, room));
+    let [reply, compressed, hint, marker] = bytes;
+    let answer = answers::framed(field, data, reply, compressed != 0, hint, marker).and_then(|f| within(f, room));
     line!(out, "frame", field, room, to_hex(&bytes), to_hex(data), or_refused(answer.map(|f| to_hex(&f))));
-}
-
-/// The source's frame, after the refusals of document 01: 8, 14, 15, 16.
-fn expected_frame(field: usize, [reply, compressed, hint, marker]: [u8; 4], data: &[u8]) -> Result<Vec<u8>, u8> {
-    if !FIELDS.contains(&field) {
-        return Err(8);
-    }
-    if data.is_empty() || data.len() > field {
-        return Err(14);
-    }
-    if marker == 0x14 {
-        return Err(15);
-    }
-    if reply > 3 || hint > 7 {
-        return Err(16);
-    }
-    Ok(answers::frame(field, data, reply, compressed != 0, hint, marker))
 }
 
 fn history(out: &mut String) {
