@@ -1,13 +1,15 @@
--- Plain bodies by computed tests, and one of each type.
+-- Plain bodies by computed tests, one of each type; the words of the dictionary.
 -- Assumes nothing.
 use mathlib.Core.Path.{_≡_, refl}
-use mathlib.Core.Bool.{Bool, true, _&&_, _||_, not, false≢true}
-use mathlib.Core.List.{List}
+use mathlib.Core.Bool.{Bool, true, false, _&&_, _||_, not, false≢true}
+use mathlib.Core.List.{List, [], _∷_, _++_}
+use mathlib.Core.Option.{some}
 use Prim.Native.Nat.{ℕ, _+_, _≤_, _<_}
 use native.Mathlib.Omega.{arith}
 use lib.ListN.{length, getD, take, drop, drop-of-length-le}
 use lib.Dec.{eqb, leb}
 use borrow.Author.Tests.{leb-true, eqb-true}
+use Rattle.laws.specs.Bits.{odd, bitsOf}
 use Rattle.laws.specs.Pick.{pick}
 use Rattle.laws.specs.Text.{ascii, between, isDigit, same, isOneOf, starts, filled}
 use Rattle.laws.proofs.Cases.{by-le, and-left, and-right}
@@ -16,7 +18,8 @@ use Rattle.bits.specs.Val.{stops, nextVal, valFrom, valOf}
 use Rattle.ax25_token.specs.Token.{twoDigits, decimal, suffix}
 use Rattle.ax25_token.specs.Clean.{cleanLetter, cleanLetters, misread, callText, CleanCall}
 use Rattle.ax25_address.specs.Types.{Position, TimestampedPosition, Message}
-use Rattle.ax25_aprs.specs.Words.{words, word}
+use Rattle.ax25_aprs.specs.Words.{words, word, firstOf, wordAt}
+use Rattle.ax25_aprs.specs.Text.{before, joined, altitudeAt, frontBits, frontSize, textFrom, textBits}
 use Rattle.ax25_aprs.specs.LatLon.{dotted, side}
 use Rattle.ax25_aprs.specs.Plain.{DigitsOf, Altitudes, Place, placeBytes, PlainPlace, PlainBody, position, timestamped, message}
 
@@ -98,3 +101,14 @@ a-timestamped = timestamped (ascii "123456") here (of-digits 6 (ascii "123456") 
 pub a-message : PlainBody Message (ascii ":N0CALL-12:VARA HF /A=001234")
 unfolding callText suffix decimal twoDigits pick filled inRange below between
 a-message = message (ascii "N0CALL") 12 (ascii "VARA HF /A=001234") call-clean (in-range 0x20 0x7F (ascii "VARA HF /A=001234") refl)
+
+-- ---- the dictionary, word by word
+
+abbrev codesTo : List ℕ → List Bool
+codesTo [] = []
+codesTo (c ∷ cs) = bitsOf 7 c ++ codesTo cs
+
+-- the words in order have the codes 1 to 9
+pub all-words : textBits false (ascii "/A=00VARAPinPointHF ackAPRSping{DigiGate") ≡ some (codesTo (1 ∷ 2 ∷ 3 ∷ 4 ∷ 5 ∷ 6 ∷ 7 ∷ 8 ∷ 9 ∷ []))
+unfolding textBits textFrom joined before frontBits frontSize altitudeAt wordAt firstOf words word starts pick bitsOf odd
+all-words = refl
