@@ -10,24 +10,23 @@ use lib.Dec.{eqb}
 use lib.ListN.{replicate}
 use Rattle.laws.specs.Bits.{odd, num, bitsOf, valueOf, fit, packN, pack, unpack}
 use Rattle.laws.specs.Pick.{pick}
-use Rattle.laws.specs.Text.{ascii, same, between, isDigit, upper, isOneOf, starts, later, position, filled, trimFront, keepOr, trimEnd, trim}
+use Rattle.laws.specs.Text.{ascii, same, between, upper, isOneOf, starts, later, position, trimFront, keepOr, trimEnd, trim}
 use Rattle.crc.specs.Crc.{crcBit, crcSteps, crcByte, crcFrom, crcOf, crcBits}
-use Rattle.bits.specs.Read.{letter, takeBits, takeText, taken}
-use Rattle.bits.specs.Text7.{sevens, unsevens, lastOr, text7Bits, differ, counted, endOf, text7Of, text7Next, text7Left}
+use Rattle.bits.specs.Read.{letter, takeBits, takeText}
+use Rattle.bits.specs.Text7.{sevens, unsevens, lastOr, text7Bits, differ, counted, endOf, text7Of}
 use Rattle.bits.specs.Val.{stops, nextVal, valFrom, valOf}
-use Rattle.bits.specs.Write.{widthOf, topBits}
-use Rattle.refusals.specs.Outcome.{Outcome, refused, answer, into}
-use Rattle.sender.specs.Send.{countFor, sendOf, ceiling, countOf, checkOf, leadOf, fragmentOf, piecesFrom, led, splitOf, mostOf}
+use Rattle.refusals.specs.Outcome.{Outcome, refused, answer}
+use Rattle.sender.specs.Send.{countFor, sendOf, ceiling, countOf, checkOf, leadOf, fragmentOf, mostOf}
 use Rattle.ax25_token.specs.Tables.{callAlphabet, long, symOf, alphaOf, wideTokens, wideRow, pairRows, pairTexts, fixedRows, numberedRows}
 use Rattle.ax25_token.specs.Token.{tokenBits, readToken, hyphened, baseOf, behind, numberAt, twoDigits, decimal, suffix, pairBits, pairsBits, fixedBits, takes, numberedBits, spell, ending, plainAp, apBits, spelledBits, orElse, after, pairForm, fixedForm, numberedForm, symbolForm, formOf, wideNumber, readPair, readNumber, letterOf, goOn, readLetters, readSpelled, readForm}
 use Rattle.ax25_address.specs.Types.{Ax25, Generic}
 use Rattle.ax25_address.specs.Address.{white, half, addrCall, double, cutTo, ssidOf, callBytes}
-use Rattle.ax25_address.specs.Classify.{anyHigh, marksAt, isPosition, isTimestamped, isMessage, stopsAt, endsAt, tally, scanThird, isThird, classifyOf}
-use Rattle.ax25_address.specs.Parse.{splitOff, digiFields, parseOf, typeOf, aliases, aliasCalls, sameAll, aliasFrom, aliasOf}
+use Rattle.ax25_address.specs.Classify.{anyHigh, classifyOf}
+use Rattle.ax25_address.specs.Parse.{splitOff, digiFields, parseOf, typeOf}
 use Rattle.ax25.specs.Encode.{Coded, headerOf, bodyBytes, tokensBits, digiBits, headBits, frameBits, codeParsed, encodeOf}
-use Rattle.ax25.specs.Decode.{nameAt, bytesIn, marked, readTokens, readAlias, readAliased, readDigis, readHead, readInfo, addresses, readFrame}
+use Rattle.ax25.specs.Decode.{marked, readTokens, readDigis, readHead, readInfo, addresses, readFrame}
 use Rattle.kiss.specs.Generic.{genericOf, genericBack}
-use Rattle.kiss.specs.Codec.{codeOf, Decoded, decodeOf, summaryOf, decodeMessage, decodeSome}
+use Rattle.kiss.specs.Codec.{codeOf, Decoded, decodeOf, decodeMessage, decodeSome}
 
 pub data Edge : Type 0 where
   codes : ℕ → List ℕ → List ℕ → Edge  -- command and data, the message
@@ -117,5 +116,5 @@ all [] = true
 all (e ∷ es) = holds e && all es
 
 pub table-holds : all table ≡ true
-unfolding frame message table givesMessage givesData givesCount isRefused givesFragment givesBits givesCall holds all odd num bitsOf valueOf fit packN pack unpack pick between isDigit upper same isOneOf starts later position filled trimFront keepOr trimEnd trim crcBit crcSteps crcByte crcFrom crcOf crcBits takeBits takeText taken sevens unsevens lastOr text7Bits differ counted endOf text7Of text7Next text7Left stops nextVal valFrom valOf widthOf topBits into ceiling countOf countFor checkOf leadOf fragmentOf piecesFrom led splitOf mostOf sendOf callAlphabet long symOf alphaOf wideTokens wideRow pairRows pairTexts fixedRows numberedRows hyphened baseOf behind numberAt twoDigits decimal suffix pairBits pairsBits fixedBits takes numberedBits spell ending plainAp apBits spelledBits orElse tokenBits after pairForm fixedForm numberedForm symbolForm formOf wideNumber readPair readNumber letterOf goOn readLetters readSpelled readForm readToken white half addrCall double cutTo ssidOf callBytes anyHigh marksAt isPosition isTimestamped isMessage stopsAt endsAt tally scanThird isThird classifyOf splitOff digiFields parseOf typeOf aliases aliasCalls sameAll aliasFrom aliasOf headerOf bodyBytes tokensBits digiBits headBits frameBits codeParsed encodeOf nameAt bytesIn marked readTokens readAlias readAliased readDigis readHead readInfo addresses readFrame genericOf genericBack codeOf summaryOf decodeMessage decodeSome decodeOf
+unfolding frame message table givesMessage givesData givesCount isRefused givesFragment givesBits givesCall holds all odd num bitsOf valueOf fit packN pack unpack pick between upper same isOneOf starts later position trimFront keepOr trimEnd trim crcBit crcSteps crcByte crcFrom crcOf crcBits takeBits takeText sevens unsevens lastOr text7Bits differ counted endOf text7Of stops nextVal valFrom valOf ceiling countOf countFor checkOf leadOf fragmentOf mostOf sendOf callAlphabet long symOf alphaOf wideTokens wideRow pairRows pairTexts fixedRows numberedRows hyphened baseOf behind numberAt twoDigits decimal suffix pairBits pairsBits fixedBits takes numberedBits spell ending plainAp apBits spelledBits orElse tokenBits after pairForm fixedForm numberedForm symbolForm formOf wideNumber readPair readNumber letterOf goOn readLetters readSpelled readForm readToken white half addrCall double cutTo ssidOf callBytes anyHigh classifyOf splitOff digiFields parseOf typeOf headerOf bodyBytes tokensBits digiBits headBits frameBits codeParsed encodeOf marked readTokens readDigis readHead readInfo addresses readFrame genericOf genericBack codeOf decodeMessage decodeSome decodeOf
 table-holds = refl
