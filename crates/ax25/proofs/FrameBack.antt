@@ -1,22 +1,22 @@
 -- A plain frame is coded and read back.
 -- Assumes nothing.
 use mathlib.Core.Path.{_≡_, refl, sym, ap, ap₂, _∙_}
-use mathlib.Core.Bool.{Bool, true, false, false≢true, and-true}
-use mathlib.Core.List.{List, [], _∷_, _++_, append-assoc}
+use mathlib.Core.Bool.{Bool, true, false, and-true}
+use mathlib.Core.List.{List, _∷_, _++_, append-assoc}
 use mathlib.Core.Option.{some}
 use Prim.Native.Nat.{ℕ, zero, suc, _+_, _-_, _*_, _/_, _%_, _^_, _≤_, _<_}
 use native.Mathlib.Nat.{zero-add}
 use native.Mathlib.Omega.{arith}
-use lib.ListN.{length, drop, replicate, length-append, length-replicate}
+use lib.ListN.{length, replicate, length-append, length-replicate}
 use lib.Dec.{eqb}
-use Rattle.laws.specs.Bits.{odd, pack, packN, unpack}
+use Rattle.laws.specs.Bits.{odd, pack, unpack}
 use Rattle.laws.specs.Pick.{pick}
 use Rattle.laws.specs.Text.{ascii, starts}
 use Rattle.laws.proofs.ByteLaws.{length-unpack, unpack-pack, unpack-whole, packN-front}
 use Rattle.bits.specs.Text7.{lastOr, text7Bits}
 use Rattle.bits.proofs.Text7Laws.{length-text7, text7-back}
 use Rattle.refusals.specs.Outcome.{answer}
-use Rattle.ax25_token.specs.Clean.{callText, CleanCall}
+use Rattle.ax25_token.specs.Clean.{callText}
 use Rattle.ax25_address.specs.Types.{Text, Binary, ThirdParty, Ax25}
 use Rattle.ax25_address.specs.Classify.{classifyOf}
 use Rattle.ax25_address.specs.Parse.{typeOf}
@@ -26,7 +26,7 @@ use Rattle.ax25_aprs.specs.Plain.{PlainBody, position, timestamped, message}
 use Rattle.ax25_aprs.proofs.BodyBack.{body-back}
 use Rattle.ax25.specs.Encode.{digiCode, typeWidth, headerOf, bodyBytes, frameBits, codeParsed, encodeOf}
 use Rattle.ax25.specs.Decode.{digiCount, known, bytesIn, readInfo, readFrame, addresses}
-use Rattle.ax25.specs.Plain.{Address, AllClean, addressField, PlainInfo, text, binary, body, Plain}
+use Rattle.ax25.specs.Plain.{addressField, PlainInfo, text, binary, body, Plain}
 use Rattle.ax25.proofs.HeadBack.{HeadBack, head-back, addresses-back}
 use Rattle.ax25.proofs.PlainLaws.{odd-yes, texts, heards, length-texts, plainParsed, plain-parsed}
 

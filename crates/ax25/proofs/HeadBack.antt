@@ -4,19 +4,18 @@ use mathlib.Core.Path.{_≡_, refl, sym, ap}
 use mathlib.Core.Bool.{Bool, true, false}
 use mathlib.Core.List.{List, [], _∷_, _++_, append-assoc}
 use mathlib.Core.Option.{Option, some}
-use Prim.Native.Nat.{ℕ, zero, suc, _+_, _*_, _%_, _^_, _≤_, _<_}
+use Prim.Native.Nat.{ℕ, suc, _+_, _%_, _^_, _<_}
 use native.Mathlib.Nat.{mod-eq-of-lt, not-suc-le-zero}
 use native.Mathlib.Omega.{arith}
-use lib.ListN.{length, length-append}
+use lib.ListN.{length}
 use lib.Dec.{ltb}
 use borrow.Author.Tests.{ltb-true}
 use Rattle.laws.specs.Bits.{bitsOf}
 use Rattle.laws.specs.Pick.{pick}
 use Rattle.laws.specs.Text.{ascii, starts}
-use Rattle.laws.proofs.BitLaws.{length-bits}
 use Rattle.laws.proofs.Cases.{by-test}
 use Rattle.bits.proofs.ReadLaws.{take-bits}
-use Rattle.ax25_token.specs.Clean.{callText, CleanCall}
+use Rattle.ax25_token.specs.Clean.{callText}
 use Rattle.ax25_token.proofs.TokenBack.{token-back}
 use Rattle.ax25_address.specs.Parse.{Parsed, aliases, aliasCalls, sameAll, aliasFrom, aliasOf}
 use Rattle.ax25_address.proofs.ParseLaws.{split-off, all-eq}

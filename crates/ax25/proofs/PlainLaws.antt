@@ -8,7 +8,7 @@ use Prim.Native.Nat.{ℕ, zero, suc, _+_, _-_, _*_, _/_, _%_, _^_, _≤_, _<_}
 use native.Mathlib.Nat.{not-suc-le-zero, le-of-suc-le-suc}
 use native.Mathlib.Omega.{arith}
 use lib.Bits.{bitOr, or-zero-r, or-shifted, or-shifted-r, or-block}
-use lib.ListN.{length, getD, set, replicate, length-append, length-map}
+use lib.ListN.{length, getD, replicate, length-append, length-map}
 use lib.Seq.{set-at, getD-at}
 use lib.Dec.{leb}
 use borrow.Author.Tests.{eq-eqb, ne-eqb, le-leb, lt-leb}
@@ -16,7 +16,6 @@ use Rattle.laws.specs.Bits.{odd}
 use Rattle.laws.specs.Pick.{pick}
 use Rattle.laws.specs.Text.{upper, filled}
 use Rattle.ax25_token.specs.Clean.{cleanLetters, callText, CleanCall}
-use Rattle.ax25_token.specs.Token.{suffix}
 use Rattle.ax25_token.proofs.CleanLaws.{clean-lt, clean-first, clean-rest, call-upper}
 use Rattle.ax25_address.specs.Address.{addrCall, heardIn, double, cutTo, callBytes}
 use Rattle.ax25_address.specs.Parse.{Parsed, digiFields, parseOf}

@@ -3,27 +3,26 @@
 use mathlib.Core.Path.{_≡_, refl}
 use mathlib.Core.Bool.{Bool, true, false, _&&_}
 use mathlib.Core.List.{List, [], _∷_, _++_}
-use mathlib.Core.Option.{Option, none, some, Option·none-ne-some, Option·some-injective}
-use Prim.Native.Nat.{ℕ, zero, suc, _+_, _*_, _/_, _≤_, _<_}
+use mathlib.Core.Option.{Option, none, some, Option·some-injective}
+use Prim.Native.Nat.{ℕ, zero, suc, _+_, _*_, _≤_, _<_}
 use native.Mathlib.Nat.{suc-mul}
 use native.Mathlib.Omega.{arith}
 use lib.ListN.{length, drop, getD, length-append, length-drop}
 use lib.Dec.{eqb, ltb}
 use Rattle.laws.specs.Bits.{bitsOf, pack, unpack}
-use Rattle.laws.specs.Pick.{pick, _>>=_}
+use Rattle.laws.specs.Pick.{pick}
 use Rattle.laws.proofs.BitLaws.{length-bits}
 use Rattle.laws.proofs.ByteLaws.{length-pack, length-unpack}
 use Rattle.laws.proofs.Cases.{by-test, from-some}
 use Rattle.bits.specs.Text7.{lastOr, text7Bits}
 use Rattle.bits.proofs.Text7Laws.{length-text7}
 use Rattle.refusals.specs.Outcome.{Outcome, refused, answer}
-use Rattle.ax25_token.specs.Token.{baseOf, tokenBits}
+use Rattle.ax25_token.specs.Token.{tokenBits}
 use Rattle.ax25_token.proofs.Sizes.{token-size}
 use Rattle.ax25_address.specs.Parse.{Parsed, parseOf, isUi, isAp, typeOf, aliasOf}
 use Rattle.ax25_address.specs.Types.{Text, Binary, ThirdParty, Ax25Long, callLen}
 use Rattle.ax25_address.proofs.SizeLaws.{AllBase, Sized, parse-size}
 use Rattle.ax25_aprs.specs.Body.{bodyBits}
-use Rattle.ax25_aprs.specs.Coded.{_then_}
 use Rattle.ax25_aprs.specs.Third.{thirdBits}
 use Rattle.ax25_aprs.proofs.Sizes.{AtMost, answer-most, le-most, pick-most, then-most, body-size, third-size}
 use Rattle.ax25.specs.Encode.{digiCode, typeWidth, headerOf, bodyBytes, tokensBits, digiBits, headBits, frameBits, Coded, orThree, orFour, packed, codeParsed, encodeOf}

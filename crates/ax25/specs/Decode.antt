@@ -7,7 +7,7 @@ use Prim.Native.Nat.{ℕ, zero, suc, _+_, _-_, _/_, _%_}
 use lib.Bits.{bitOr}
 use lib.ListN.{length, getD, drop, set}
 use lib.Dec.{leb, eqb}
-use Rattle.laws.specs.Bits.{odd, unpack, packN}
+use Rattle.laws.specs.Bits.{odd, packN}
 use Rattle.laws.specs.Pick.{pick, _>>=_}
 use Rattle.laws.specs.Text.{ascii, starts}
 use Rattle.bits.specs.Read.{takeBits}

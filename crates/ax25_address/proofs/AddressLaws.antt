@@ -8,12 +8,12 @@ use Prim.Native.Nat.{ℕ, zero, suc, _+_, _-_, _*_, _/_, _%_, _≤_, _<_}
 use native.Mathlib.Nat.{not-suc-le-zero, le-of-suc-le-suc}
 use native.Mathlib.Omega.{arith}
 use lib.Bits.{bitOr}
-use lib.ListN.{length, take, getD, replicate, length-append, length-replicate, length-map, replicate-append-replicate}
+use lib.ListN.{length, take, replicate, length-append, length-replicate, length-map, replicate-append-replicate}
 use lib.Seq.{take-at, getD-at, length-take-le, take-append-add}
 use lib.Dec.{eqb}
 use borrow.Author.Tests.{eqb-true}
 use Rattle.laws.specs.Pick.{pick}
-use Rattle.laws.specs.Text.{ascii, between, upper, same, starts, filled}
+use Rattle.laws.specs.Text.{ascii, between, same, starts, filled}
 use Rattle.laws.proofs.Cases.{by-test}
 use Rattle.laws.proofs.TextLaws.{below, at-each}
 use Rattle.laws.proofs.TrimLaws.{between-above, Solid, trim-filled}

@@ -1,6 +1,6 @@
 -- `aprs_encode` and `aprs_decode`: text, position, position with a time, message.
 -- Assumes nothing.
-use mathlib.Core.Bool.{Bool, true, false}
+use mathlib.Core.Bool.{Bool, false}
 use mathlib.Core.List.{List, [], _∷_, _++_, map}
 use mathlib.Core.Option.{Option, none, some}
 use Prim.Native.Nat.{ℕ}
@@ -10,7 +10,7 @@ use Rattle.laws.specs.Pick.{pick, _>>=_}
 use Rattle.laws.specs.Text.{upper, trim, filled}
 use Rattle.bits.specs.Val.{valOf}
 use Rattle.bits.specs.Write.{topBits}
-use Rattle.refusals.specs.Outcome.{Outcome, refused, answer}
+use Rattle.refusals.specs.Outcome.{Outcome, answer}
 use Rattle.ax25_token.specs.Token.{tokenBits, readToken}
 use Rattle.ax25_address.specs.Address.{white}
 use Rattle.ax25_address.specs.Types.{Text, Position, TimestampedPosition}

@@ -1,6 +1,5 @@
 -- DICTIONARY, the words of position text and messages.
 -- Assumes nothing.
-use mathlib.Core.Bool.{Bool}
 use mathlib.Core.List.{List, [], _∷_}
 use Prim.Native.Nat.{ℕ, suc, _-_}
 use lib.ListN.{getD}

@@ -1,10 +1,10 @@
 -- Demand 3, its second part, for messages that are any bytes the sender accepts: they are handed out, with idle calls anywhere between.
 -- Assumes nothing.
-use mathlib.Core.Path.{_≡_, refl, sym, ap, ap₂, _∙_}
+use mathlib.Core.Path.{_≡_, refl, ap, ap₂, _∙_}
 use mathlib.Core.Bool.{Bool, true, false}
 use mathlib.Core.List.{List, [], _∷_}
-use mathlib.Core.Option.{Option, some}
-use Prim.Native.Nat.{ℕ, suc, _+_}
+use mathlib.Core.Option.{Option}
+use Prim.Native.Nat.{ℕ, _+_}
 use native.Mathlib.Omega.{arith}
 use lib.ListN.{length}
 use borrow.Author.Tests.{eq-eqb, ne-eqb, le-ltb}
@@ -15,8 +15,8 @@ use Rattle.receiver.specs.Join.{Heard, refused, dropped}
 use Rattle.receiver.specs.New.{freshOf}
 use Rattle.receiver.specs.Push.{fragmentLength}
 use Rattle.gateway.specs.Run.{Call, push, join, reset, state, leftBy, runOf, idle}
-use Rattle.gateway.specs.Script.{Sending, AllAccepted, Line, line, calls, answers, allLines, idleAnswer, Mixed, finished, still, next, settled}
-use Rattle.gateway.proofs.View.{Held, empty, Out, out, joinV, stepV, leftV, runV, joinV-empty, joinV-past, pushV-field, pushV-length, pushV-on}
+use Rattle.gateway.specs.Script.{Sending, AllAccepted, Line, calls, answers, allLines, idleAnswer, Mixed, finished, still, next, settled}
+use Rattle.gateway.proofs.View.{Held, empty, out, joinV, stepV, leftV, runV, joinV-empty, joinV-past, pushV-field, pushV-length, pushV-on}
 use Rattle.gateway.proofs.Sim.{left-good, left-sim, run-sim, fresh-good, fresh-view}
 use Rattle.gateway.proofs.Forget.{step-ends}
 use Rattle.gateway.proofs.Messages.{messages}

@@ -2,19 +2,19 @@
 -- message.
 -- Assumes nothing.
 use mathlib.Core.Path.{_≡_, refl, sym, ap, ap₂, _∙_, subst}
-use mathlib.Core.Bool.{Bool, true}
+use mathlib.Core.Bool.{true}
 use mathlib.Core.List.{List, [], _∷_, _++_}
 use mathlib.Core.Option.{Option, some}
 use Prim.Native.Nat.{ℕ, zero, suc, _+_, _-_, _*_, _≤_, _<_}
 use native.Mathlib.Numerals.{add-one}
 use native.Mathlib.Omega.{arith}
-use lib.ListN.{length, getD, take, drop, length-append, length-take}
+use lib.ListN.{length, take, drop, length-append, length-take}
 use lib.Seq.{take-all, take-add}
 use lib.Dec.{eqb}
 use borrow.Author.Tests.{ne-eqb}
 use Rattle.laws.specs.Pick.{pick}
 use Rattle.laws.proofs.Cases.{by-le, pick-false}
-use Rattle.refusals.specs.Limits.{fieldOk, maskOk}
+use Rattle.refusals.specs.Limits.{fieldOk}
 use Rattle.refusals.proofs.LimitLaws.{Top, mask-top, field-low}
 use Rattle.sender.specs.Send.{ceiling, countOf, checkOf, fragmentOf, mostOf}
 use Rattle.sender.proofs.CountLaws.{ceiling-covers, count-one, count-many}
@@ -24,7 +24,7 @@ use Rattle.frame.specs.declared.Control.{Control}
 use Rattle.frame.proofs.FrameLaws.{frame-starts, build-accepted}
 use Rattle.receiver.specs.Join.{Heard, more, done}
 use Rattle.gateway.specs.Run.{Call, push}
-use Rattle.gateway.specs.Script.{Sending, countIn, Accepted, AllAccepted, Line, line, calls, answers, linesFrom, linesOf, allLines}
+use Rattle.gateway.specs.Script.{Sending, Accepted, AllAccepted, Line, line, calls, answers, linesFrom, linesOf, allLines}
 use Rattle.gateway.proofs.CheckByte.{most-few, check-passes}
 use Rattle.gateway.proofs.FrameHeard.{pushed, front-first, front-only, front-next}
 use Rattle.gateway.proofs.View.{Held, empty, part, Out, out, acceptV, stepV, runV, endV, growV-more, growV-last, end-one, end-good}

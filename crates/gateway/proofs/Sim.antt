@@ -10,13 +10,13 @@ use lib.Bits.{bitAnd}
 use lib.ListN.{length, getD, take, drop, set, length-set}
 use lib.Seq.{sets, length-sets, take-set-lt, length-take-le, take-suc-set}
 use lib.Dec.{leb}
-use borrow.Author.Tests.{eq-eqb, ne-eqb}
+use borrow.Author.Tests.{eq-eqb}
 use Rattle.laws.specs.Pick.{pick}
 use Rattle.laws.proofs.Cases.{by-test, by-le, by-eq}
 use Rattle.laws.proofs.ListLaws.{take-sets}
 use Rattle.crc.specs.Crc.{crcBits}
 use Rattle.refusals.specs.Limits.{fieldOk, maskOk}
-use Rattle.receiver.specs.Join.{Heard, refused, dropped, more, done, After, emptied, ended, finishOf, baseOf, headed, grown, growOf, started, acceptOf, joinOf, refusalOf}
+use Rattle.receiver.specs.Join.{Heard, refused, dropped, done, emptied, ended, finishOf, baseOf, headed, grown, growOf, started, acceptOf, joinOf, refusalOf}
 use Rattle.receiver.specs.New.{freshOf}
 use Rattle.receiver.specs.Push.{fragmentLength}
 use Rattle.receiver.specs.declared.Reassembler.{Reassembler}

@@ -1,14 +1,13 @@
 -- For every command and data, a coded message has at most 5,000 bytes and its first byte is below 80.
 -- Assumes nothing.
-use mathlib.Core.Path.{_≡_, refl}
-use mathlib.Core.Bool.{Bool, true, false}
-use mathlib.Core.List.{List, [], _∷_}
-use Prim.Native.Nat.{ℕ, _≤_, _<_}
+use mathlib.Core.Path.{_≡_}
+use mathlib.Core.Bool.{false}
+use mathlib.Core.List.{List}
+use Prim.Native.Nat.{ℕ, _≤_}
 use native.Mathlib.Omega.{arith}
-use lib.ListN.{length, getD}
+use lib.ListN.{length}
 use lib.Dec.{ltb, eqb}
 use borrow.Author.Tests.{le-ltb, ltb-false}
-use Rattle.laws.specs.Bits.{pack}
 use Rattle.laws.specs.Pick.{pick}
 use Rattle.laws.proofs.ByteLaws.{length-pack}
 use Rattle.laws.proofs.Cases.{by-test}
@@ -17,7 +16,7 @@ use Rattle.bits.proofs.Text7Laws.{length-text7}
 use Rattle.refusals.specs.Outcome.{Outcome, refused, answer}
 use Rattle.ax25_address.specs.Types.{Text, Generic}
 use Rattle.ax25_address.specs.Classify.{anyHigh}
-use Rattle.ax25.specs.Encode.{Coded, encodeOf}
+use Rattle.ax25.specs.Encode.{Coded}
 use Rattle.ax25.proofs.SizeLaws.{Bounds, encode-bounds}
 use Rattle.kiss.specs.Generic.{genericOf}
 use Rattle.kiss.specs.Codec.{codeOf}

@@ -1,12 +1,11 @@
 -- Generic bytes and plain frames come back.
 -- Assumes nothing.
 use mathlib.Core.Path.{_≡_, _∙_}
-use mathlib.Core.List.{List, [], _∷_}
+use mathlib.Core.List.{List, _∷_}
 use Prim.Native.Nat.{ℕ, _≤_}
 use native.Mathlib.Omega.{arith}
 use lib.ListN.{length}
 use borrow.Author.Tests.{le-ltb}
-use Rattle.laws.specs.Bits.{unpack}
 use Rattle.laws.specs.Pick.{pick}
 use Rattle.refusals.specs.Outcome.{answer}
 use Rattle.ax25_address.specs.Types.{Ax25}

@@ -1,13 +1,13 @@
 -- Generic bytes come back.
 -- Assumes nothing.
-use mathlib.Core.Path.{_≡_, refl, ap, _∙_}
+use mathlib.Core.Path.{_≡_, refl, _∙_}
 use mathlib.Core.Bool.{Bool, true, false}
 use mathlib.Core.List.{List, [], _∷_}
-use Prim.Native.Nat.{ℕ, suc, _%_, _≤_}
+use Prim.Native.Nat.{ℕ, suc, _≤_}
 use native.Mathlib.Omega.{arith}
 use lib.ListN.{length}
 use borrow.Author.Tests.{le-ltb}
-use Rattle.laws.specs.Bits.{odd, pack, unpack}
+use Rattle.laws.specs.Bits.{odd, pack}
 use Rattle.laws.specs.Pick.{pick}
 use Rattle.laws.proofs.ByteLaws.{length-pack, unpack-whole}
 use Rattle.laws.proofs.Cases.{by-test}

@@ -2,7 +2,7 @@
 -- Assumes nothing.
 use mathlib.Core.Bool.{false}
 use mathlib.Core.List.{List, [], _∷_}
-use mathlib.Core.Option.{Option, Option·getD}
+use mathlib.Core.Option.{Option·getD}
 use Prim.Native.Nat.{ℕ}
 use Rattle.laws.specs.Bits.{odd, pack, unpack}
 use Rattle.laws.specs.Pick.{pick}
