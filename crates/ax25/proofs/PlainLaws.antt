@@ -150,12 +150,6 @@ unfolding texts
 empty-texts [] = refl
 empty-texts (a ∷ v) = refl
 
-pub field-length : (v : List Address) → AllClean v → length (addressField v) ≡ length v * 7
-unfolding addressField
-field-length [] ok = refl
-field-length (a ∷ v) ok =
-    rw (length-append (addressBytes a (isEmpty v)) (addressField v), address-length a (ok .0) (isEmpty v), field-length v (ok .1)) (omega arith)
-
 -- the further fields, behind an SSID byte b
 digis-parsed : (v : List Address) (k b : ℕ) (rest : List ℕ) → AllClean v → length v ≤ k → odd b ≡ isEmpty v
     → digiFields 6 k b (addressField v ++ rest) ≡ some (fields v, rest)
