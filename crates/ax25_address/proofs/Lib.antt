@@ -1,3 +1,4 @@
 pub mod AddressLaws
+pub mod ClassifyLaws
 pub mod ParseLaws
 pub mod SizeLaws

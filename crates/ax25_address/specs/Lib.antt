@@ -1,4 +1,5 @@
 pub mod Address
 pub mod Classify
+pub mod Kind
 pub mod Parse
 pub mod Types
