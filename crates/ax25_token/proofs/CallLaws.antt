@@ -9,7 +9,7 @@ use native.Mathlib.Numerals.{add-one}
 use native.Mathlib.Omega.{arith}
 use lib.ListN.{length, take, drop, length-set}
 use lib.Seq.{take-suc-set}
-use Rattle.bits.specs.Read.{takeBits, takeText, taken}
+use Rattle.bits.specs.Read.{takeBits, taken}
 use Rattle.bits.specs.declared.read.Taken.{Taken}
 use Rattle.ax25_token.specs.declared.Call.{Call}
 use Rattle.ax25_token.specs.declared.Decoded.{Decoded}
@@ -152,3 +152,13 @@ pub onto-text : (b : List Bool) (n : ℕ) (o : Option (List ℕ × List Bool)) (
 unfolding callOf
 onto-text b n o r h i =
     (text-by b o (r .call) (callOf b r) (call-is b (r .call) (r .token)) (omega (arith, i .1)) (i .0), omega (arith, i .1))
+
+-- what an answer says of the reading, by its token
+module _ (b : List Bool) (o : Option (List ℕ × List Bool)) (r : Decoded) (told : texts (callOf b r) ≡ o) where
+  pub token-next : (p : ℕ) → r .token ≡ Next p → o ≡ some (textOf (r .call), drop p b)
+  unfolding callOf callBy texts
+  token-next p e = rw (← told, e)
+
+  pub token-nothing : r .token ≡ Nothing → o ≡ none
+  unfolding callOf callBy texts
+  token-nothing e = rw (← told, e)

@@ -44,7 +44,7 @@ unfoldable pub behindCall : Call → Option (List ℕ × List Bool) → Option (
 behindCall c none = none
 behindCall c (some p) = some (appended c (p .0), p .1)
 
--- the name of an index from 37 to 51
+-- the name of a form that has one
 unfoldable pub formName : Form → List ℕ
 formName (spelled x) = []
 formName (paired n w) = n

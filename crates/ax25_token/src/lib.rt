@@ -4,15 +4,16 @@ ghost use Prim.Native.Nat.{_+_, _-_, _^_, _≤_, _<_, ℕ};
 ghost use lib.ListN.{length, getD, drop};
 ghost use Rattle.laws.specs.Bits.{unpack};
 ghost use Rattle.laws.specs.Text.{ascii};
-ghost use Rattle.bits.specs.Read.{takeText, taken};
+ghost use Rattle.bits.specs.Read.{taken};
 ghost use Rattle.ax25_token.specs.Call.{empty, pushed, appended, callOf, texts, behindCall, formName};
 ghost use Rattle.ax25_token.specs.Tables.{callAlphabet};
-ghost use Rattle.ax25_token.specs.Token.{twoDigits, suffix, formOf, readLetters, readSpelled, readPair, readNumber, readForm, readToken};
+ghost use Rattle.ax25_token.specs.Token.{twoDigits, suffix, formOf, wideNumber, readLetters, readSpelled, readPair, readNumber, readForm, readToken};
 use bits::read::Taken;
 use bits::read::bit;
 use bits::read::take;
 use bits::read::text;
 
+// The text of a call, its first len bytes; the bytes behind are blanks.
 pub struct Call {
     pub bytes: [u8; 16],
     pub len: usize,
@@ -33,98 +34,37 @@ pub struct Decoded {
 // CALL_ALPHABET of the source.
 const CALL_ALPHABET: [u8; 37] = *b" ABCDEFGHIJKLMNOPQRSTUVWXYZ0123456789";
 
-// The names of PAIRS, FIXED and NUMBERED, by their index.
-const WIDE: Call = Call {
-    bytes: *b"WIDE            ",
-    len: 4,
-};
+// The names of PAIRS, FIXED and NUMBERED, from index 37 on, and their lengths.
+const NAMES: [[u8; 16]; 15] = [
+    *b"WIDE            ",
+    *b"PNW             ",
+    *b"MW              ",
+    *b"OR              ",
+    *b"WA              ",
+    *b"ALL             ",
+    *b"CQ              ",
+    *b"APIN            ",
+    *b"APWW            ",
+    *b"APDR            ",
+    *b"APBPQ1          ",
+    *b"APJYC1          ",
+    *b"APOPYT          ",
+    *b"APU25N          ",
+    *b"APVARA          ",
+];
 
-const PNW: Call = Call {
-    bytes: *b"PNW             ",
-    len: 3,
-};
+const LENGTHS: [usize; 15] = [4, 3, 2, 2, 2, 3, 2, 4, 4, 4, 6, 6, 6, 6, 6];
 
-const MW: Call = Call {
-    bytes: *b"MW              ",
-    len: 2,
-};
-
-const OR: Call = Call {
-    bytes: *b"OR              ",
-    len: 2,
-};
-
-const WA: Call = Call {
-    bytes: *b"WA              ",
-    len: 2,
-};
-
-const ALL: Call = Call {
-    bytes: *b"ALL             ",
-    len: 3,
-};
-
-const CQ: Call = Call {
-    bytes: *b"CQ              ",
-    len: 2,
-};
-
-const APIN: Call = Call {
-    bytes: *b"APIN            ",
-    len: 4,
-};
-
-const APWW: Call = Call {
-    bytes: *b"APWW            ",
-    len: 4,
-};
-
-const APDR: Call = Call {
-    bytes: *b"APDR            ",
-    len: 4,
-};
-
-const APBPQ1: Call = Call {
-    bytes: *b"APBPQ1          ",
-    len: 6,
-};
-
-const APJYC1: Call = Call {
-    bytes: *b"APJYC1          ",
-    len: 6,
-};
-
-const APOPYT: Call = Call {
-    bytes: *b"APOPYT          ",
-    len: 6,
-};
-
-const APU25N: Call = Call {
-    bytes: *b"APU25N          ",
-    len: 6,
-};
-
-const APVARA: Call = Call {
-    bytes: *b"APVARA          ",
-    len: 6,
-};
-
-const AP: Call = Call {
-    bytes: *b"AP              ",
-    len: 2,
-};
-
-const EMPTY: Call = Call {
-    bytes: *b"                ",
-    len: 0,
-};
-
+// No token, beside the empty call.
 fn nothing() -> Decoded
     ensures { λ r. ⌜ (r .token ≡ Token.Nothing) × (r .call ≡ empty) ⌝ }
 {
     Decoded {
         token: Token::Nothing,
-        call: EMPTY,
+        call: Call {
+            bytes: [32u8; 16],
+            len: 0,
+        },
     }
 }
 
@@ -139,6 +79,7 @@ fn push(c: Call, b: u8) -> Call
     Call { bytes, len: n + 1 }
 }
 
+// The letter of a code.
 fn letter(v: u64) -> u8
     requires { ⌜ v < 37 ⌝ }
     ensures { λ r. ⌜ r ≡ getD callAlphabet v 0 ⌝ }
@@ -223,7 +164,7 @@ fn spelled(s: &[u8], at: usize, n: usize, c: Call) -> Decoded
 // The number behind a digit: its bits are read as decimal digits.
 fn wide_number(s: &[u8], at: usize, w: usize) -> Taken
     requires { ⌜ (w ≤ 2) × (length (now s) < 2 ^ 60) ⌝ }
-    ensures { λ r. ⌜ r ≡ taken (at + w) (takeText w (drop at (unpack (now (s .entry))))) ⌝ }
+    ensures { λ r. ⌜ r ≡ taken (at + w) (wideNumber w (drop at (unpack (now (s .entry))))) ⌝ }
 {
     text(s, at, w)
 }
@@ -265,22 +206,10 @@ fn name(i: u64) -> Call
     requires { ⌜ (37 ≤ i) × (i ≤ 51) ⌝ }
     ensures { λ r. ⌜ (r ≡ appended empty (formName (formOf i))) × (r .len ≤ 6) ⌝ }
 {
-    match i {
-        37 => WIDE,
-        38 => PNW,
-        39 => MW,
-        40 => OR,
-        41 => WA,
-        42 => ALL,
-        43 => CQ,
-        44 => APIN,
-        45 => APWW,
-        46 => APDR,
-        47 => APBPQ1,
-        48 => APJYC1,
-        49 => APOPYT,
-        50 => APU25N,
-        _ => APVARA,
+    let k = (i - 37) as usize;
+    Call {
+        bytes: NAMES[k],
+        len: LENGTHS[k],
     }
 }
 
@@ -308,14 +237,21 @@ fn first(i: u64) -> Call
     requires { ⌜ i < 37 ⌝ }
     ensures { λ r. ⌜ (r ≡ pushed empty (getD callAlphabet i 0)) × (r .len ≡ 1) ⌝ }
 {
-    push(EMPTY, letter(i))
+    let c = Call {
+        bytes: [32u8; 16],
+        len: 0,
+    };
+    push(c, letter(i))
 }
 
 // The call AP.
 fn begun() -> Call
     ensures { λ r. ⌜ (r ≡ appended empty (ascii "AP")) × (r .len ≡ 2) ⌝ }
 {
-    AP
+    Call {
+        bytes: *b"AP              ",
+        len: 2,
+    }
 }
 
 // The token at a position of the bits, for calls of l letters.

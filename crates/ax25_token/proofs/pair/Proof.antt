@@ -4,6 +4,7 @@ use borrow.Author.Needs.{needs}
 use mathlib.Core.Path.{sym, _∙_}
 use native.Mathlib.Omega.{arith}
 use Rattle.bits.proofs.TakenLaws.{told-small, told-text-small}
+use Rattle.ax25_token.specs.Token.{wideNumber}
 use Rattle.ax25_token.proofs.ReaderWays.{no-digit, no-number, with-pair}
 use Rattle.ax25_token.proofs.pair.Statement.{statement}
 use Rattle.ax25_token.proofs.pair.Tie as tie
@@ -62,6 +63,7 @@ push-requires : tie.Need-push-requires
 push-requires c κs = search needs
 
 suffixed-requires : tie.Need-suffixed-requires
+unfolding wideNumber
 suffixed-requires c κs =
     let number = sym (c .before .before .before .before .wide-number .ensures) ∙ c .before .before .v .given .1 in
     omega (arith, told-text-small _ _ (c .before .before .before .before .before .before .before .before .before .before .args .w) _ _ number 2 (omega arith) (omega arith))
