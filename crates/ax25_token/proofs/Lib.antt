@@ -1,7 +1,11 @@
 pub mod Alphabet
+pub mod CallLaws
 pub mod Cases
 pub mod CleanLaws
 pub mod Examples
 pub mod Hyphen
+pub mod LetterWays
+pub mod ReaderWays
 pub mod Sizes
 pub mod TokenBack
+pub mod TokenWays

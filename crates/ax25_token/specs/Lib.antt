@@ -1,3 +1,4 @@
+pub mod Call
 pub mod Clean
 pub mod Tables
 pub mod Token

@@ -1,4 +1,5 @@
 pub mod ReadLaws
+pub mod TakenLaws
 pub mod Text7Laws
 pub mod ValLaws
 pub mod WriteLaws

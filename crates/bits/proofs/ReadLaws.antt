@@ -55,7 +55,7 @@ pub text-no : (n : ℕ) (b : List Bool) → length b < n → takeText n b ≡ no
 unfolding takeText pick
 text-no n b h = rw (lt-leb n (length b) h)
 
-letters-are : (b : List Bool) → Digits (map letter b)
+pub letters-are : (b : List Bool) → Digits (map letter b)
 letters-are [] i h = absurd (not-suc-le-zero h)
 letters-are (x ∷ b) zero h = omega (arith, num-lt x)
 letters-are (x ∷ b) (suc i) h = letters-are b i (le-of-suc-le-suc h)
