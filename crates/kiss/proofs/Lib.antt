@@ -1,3 +1,4 @@
 pub mod CodeBounds
 pub mod CodecBack
 pub mod GenericBack
+pub mod GenericLaws

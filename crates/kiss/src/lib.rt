@@ -1,1 +1,2 @@
-// Data coded and messages decoded: the definitions and their laws.
+// Data coded and messages decoded.
+pub mod generic;
