@@ -2,7 +2,7 @@
 -- Assumes nothing.
 use borrow.Author.Needs.{needs}
 use native.Mathlib.Omega.{arith}
-use Rattle.ax25_address.proofs.ClassifyLaws.{told}
+use mathlib.Core.Path.{sym, _∙_}
 use Rattle.kiss.proofs.GenericLaws.{high-wrote, low-wrote}
 use Rattle.kiss.proofs.generic.generic_encode.Statement.{statement}
 use Rattle.kiss.proofs.generic.generic_encode.Tie as tie
@@ -24,7 +24,7 @@ returns c =
     let copy = c .before .before .copy in
     let byte = c .before .before .before .before .before .before .byte in
     let then1 = c .before .before .before .before .before .before .before .before in
-    high-wrote _ (told (then1 .before .any-high .ensures) (then1 .if1 .taken)) (byte .ensures) (copy .ensures)
+    high-wrote _ (sym (then1 .before .any-high .ensures) ∙ then1 .if1 .taken) (byte .ensures) (copy .ensures)
 
 byte-requires-2 : tie.Need-byte-requires-2
 byte-requires-2 c κs = search needs
@@ -41,7 +41,7 @@ returns-2 c =
     let byte = c .before .before .before .before .before .before .byte2 in
     let else1 = c .before .before .before .before .before .before .before .before in
     let k = else1 .before .before .slice-known .given in
-    low-wrote _ (told (else1 .before .any-high .ensures) (else1 .if1 .left)) (λ j l. omega (arith, k j)) (λ j l. omega (arith, c .slice-known5 .given j)) (byte .ensures) (text .ensures .0)
+    low-wrote _ (sym (else1 .before .any-high .ensures) ∙ else1 .if1 .left) (λ j l. omega (arith, k j)) (λ j l. omega (arith, c .slice-known5 .given j)) (byte .ensures) (text .ensures .0)
 
 pub generic-encode-spec : {M : Type 1} → statement M
 generic-encode-spec =
