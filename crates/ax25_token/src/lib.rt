@@ -13,7 +13,7 @@ use bits::read::bit;
 use bits::read::take;
 use bits::read::text;
 
-// The text of a call, its first len bytes; the bytes behind are blanks.
+// A call: its text is the first len bytes.
 pub struct Call {
     pub bytes: [u8; 16],
     pub len: usize,
