@@ -7,7 +7,7 @@ ghost use Rattle.kiss.specs.Generic.{genericOf, genericBack};
 use bits::read::Got;
 
 // The message of the bytes, as far as the output goes. Its length.
-pub fn generic_encode(data: &[u8], out: &mut [u8]) -> usize
+pub(crate) fn generic_encode(data: &[u8], out: &mut [u8]) -> usize
     requires { ⌜ length (now «data») < 2 ^ 56 ⌝ }
     ensures { λ r. ⌜ Wrote (now (out .entry)) 0 (genericOf (now («data» .entry))) (now (out .exit)) r ⌝ }
 {
@@ -20,7 +20,7 @@ pub fn generic_encode(data: &[u8], out: &mut [u8]) -> usize
 }
 
 // The bytes of a message with a header, as far as the output goes. Their length.
-pub fn generic_decode(message: &[u8], out: &mut [u8]) -> usize
+pub(crate) fn generic_decode(message: &[u8], out: &mut [u8]) -> usize
     requires { ⌜ (0 < length (now message)) × (length (now message) < 2 ^ 56) ⌝ }
     ensures { λ r. ⌜ Wrote (now (out .entry)) 0 (genericBack (getD (now (message .entry)) 0 0) (drop 1 (now (message .entry)))) (now (out .exit)) r ⌝ }
 {

@@ -1,2 +1,2 @@
 // Data coded and messages decoded.
-pub mod generic;
+mod generic;
