@@ -3,11 +3,11 @@
 use mathlib.Core.Path.{_≡_}
 use mathlib.Core.Bool.{Bool, true, false, _&&_, _||_, and-assoc}
 use mathlib.Core.List.{List}
-use Prim.Native.Nat.{ℕ, _+_, _-_, _≤_, _<_}
+use Prim.Native.Nat.{ℕ, _+_, _≤_, _<_}
 use native.Mathlib.Numerals.{add-one}
 use native.Mathlib.Omega.{arith}
-use lib.ListN.{length, getD, take, drop, drop-of-length-le, length-drop}
-use lib.Seq.{take-all, drop-cons}
+use lib.ListN.{length, getD, drop, drop-of-length-le}
+use lib.Seq.{drop-cons}
 use lib.Dec.{leb, eqb}
 use Rattle.laws.specs.Pick.{pick}
 use Rattle.laws.specs.Text.{isDigit}
@@ -29,10 +29,6 @@ module _ (d : List ℕ) {r : Bool} where
 -- ---- from a place on
 
 module _ (d : List ℕ) (i : ℕ) where
-  -- `&d[i..]`
-  pub from-place : take (length d - i) (drop i d) ≡ drop i d
-  from-place = take-all (length d - i) (drop i d) (omega (arith, length-drop i d))
-
   pub high-end : length d ≤ i → anyHigh (drop i d) ≡ false
   unfolding anyHigh
   high-end h = rw (drop-of-length-le d h)

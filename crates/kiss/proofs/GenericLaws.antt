@@ -6,14 +6,14 @@ use mathlib.Core.List.{List, [], _∷_}
 use mathlib.Core.Option.{Option, none, some, Option·getD}
 use Prim.Native.Nat.{ℕ, _-_, _/_, _%_}
 use native.Mathlib.Omega.{arith}
-use lib.ListN.{length, take, drop, length-drop}
-use lib.Seq.{take-all}
+use lib.ListN.{length, take, drop}
 use borrow.Author.Tests.{eq-eqb, ne-eqb}
 use Rattle.laws.specs.Bits.{Bytes, odd, pack, unpack}
 use Rattle.laws.specs.Pick.{pick}
 use Rattle.laws.specs.Wrote.{Wrote}
 use Rattle.laws.proofs.ByteLaws.{length-pack, unpack-whole, bytes-set, bytes-stored, bytes-pack}
 use Rattle.laws.proofs.Cases.{pick-true, pick-false}
+use Rattle.laws.proofs.ListLaws.{from-place}
 use Rattle.laws.proofs.WroteLaws.{wrote-then, wrote-as}
 use Rattle.bits.specs.Text7.{text7Bits, text7Of, text7Next, text7Left}
 use Rattle.bits.specs.declared.read.Got.the-variants.{Nothing, Next}
@@ -75,17 +75,14 @@ module _ {s u : List ℕ} where
 abbrev rest : List ℕ → List ℕ
 rest m = take (length m - 1) (drop 1 m)
 
-rest-is : (m : List ℕ) → rest m ≡ drop 1 m
-rest-is m = take-all (length m - 1) (drop 1 m) (omega (arith, length-drop 1 m))
-
 module _ (h : ℕ) (m : List ℕ) where
   bytes-is : h % 2 ≡ 0 → rest m ≡ genericBack h (drop 1 m)
   unfolding genericBack odd
-  bytes-is e = rest-is m ∙ sym (pick-false _ _ (ne-eqb (h % 2) 1 (λ q. omega arith)))
+  bytes-is e = from-place m 1 ∙ sym (pick-false _ _ (ne-eqb (h % 2) 1 (λ q. omega arith)))
 
   text-is : (h % 2 ≡ 0 → ⊥) → Option·getD (text7Of (unpack (rest m)) 0) [] ≡ genericBack h (drop 1 m)
   unfolding genericBack odd
-  text-is e = rw (rest-is m) (sym (pick-true _ _ (eq-eqb (h % 2) 1 (omega arith))))
+  text-is e = rw (from-place m 1) (sym (pick-true _ _ (eq-eqb (h % 2) 1 (omega arith))))
 
   pub bytes-back : {s u : List ℕ} {n : ℕ} → h % 2 ≡ 0 → Wrote s 0 (rest m) u n → Wrote s 0 (genericBack h (drop 1 m)) u n
   bytes-back e w = wrote-as (bytes-is e) w

@@ -2,12 +2,12 @@
 -- Assumes nothing.
 use mathlib.Core.Path.{_≡_, refl}
 use mathlib.Core.List.{List, [], _∷_, _++_, append-assoc}
-use Prim.Native.Nat.{ℕ, suc, _+_, _≤_, _<_}
+use Prim.Native.Nat.{ℕ, suc, _+_, _-_, _≤_, _<_}
 use native.Mathlib.Nat.{zero-add, add-zero, add-suc, suc-add}
 use native.Mathlib.Numerals.{add-one}
 use native.Mathlib.Omega.{arith}
-use lib.ListN.{length, getD, set, take, drop, length-append}
-use lib.Seq.{take-at, drop-at, take-suc, length-take-le, sets, sets-eq}
+use lib.ListN.{length, getD, set, take, drop, length-append, length-drop}
+use lib.Seq.{take-at, drop-at, take-all, take-suc, length-take-le, sets, sets-eq}
 
 module _ {A : Type 0} where
   pub set-past : (xs ys : List A) (n : ℕ) (a : A) → set (xs ++ ys) (length xs + n) a ≡ xs ++ set ys n a
@@ -52,3 +52,7 @@ module _ {A : Type 0} where
   drop-stored l i vs h =
       rw (sets-eq vs l i h, append-assoc (take i l) vs (drop (i + length vs) l))
       (drop-at (take i l) (vs ++ drop (i + length vs) l) i (length-take-le i l (omega arith)))
+
+  -- `&l[i..]`
+  pub from-place : (l : List A) (i : ℕ) → take (length l - i) (drop i l) ≡ drop i l
+  from-place l i = take-all (length l - i) (drop i l) (omega (arith, length-drop i l))

@@ -6,7 +6,7 @@ use mathlib.Core.Bool.{not}
 use Prim.Native.Nat.{_+_}
 use borrow.Author.Tests.{eq-eqb, ne-eqb}
 use Rattle.ax25_address.specs.Classify.{stopsAt}
-use Rattle.ax25_address.proofs.ClassifyLaws.{from-place}
+use Rattle.laws.proofs.ListLaws.{from-place}
 use Rattle.ax25_address.proofs.classify.stops_at.Statement.{statement}
 use Rattle.ax25_address.proofs.classify.stops_at.Tie as tie
 
