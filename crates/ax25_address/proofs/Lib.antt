@@ -1,4 +1,5 @@
 pub mod AddressLaws
 pub mod ClassifyLaws
+pub mod LetterLaws
 pub mod ParseLaws
 pub mod SizeLaws

@@ -3,9 +3,11 @@
 use mathlib.Core.Path.{_≡_, refl}
 use mathlib.Core.Bool.{Bool, true, false}
 use mathlib.Core.List.{List, [], _∷_, _++_, append-nil}
-use Prim.Native.Nat.{ℕ, zero, suc, _-_, _≤_, _<_, suc-le-suc}
+use Prim.Native.Nat.{ℕ, zero, suc, _+_, _-_, _≤_, _<_, suc-le-suc}
+use native.Mathlib.Numerals.{add-one}
 use native.Mathlib.Omega.{arith}
-use lib.ListN.{length, getD, replicate, length-append, length-replicate}
+use lib.ListN.{length, getD, drop, replicate, length-append, length-replicate}
+use lib.Seq.{drop-cons}
 use borrow.Author.Tests.{le-leb, lt-leb}
 use Rattle.laws.specs.Pick.{pick}
 use Rattle.laws.specs.Text.{between, filled, trimFront, keepOr, trimEnd, trim}
@@ -84,3 +86,26 @@ module _ (w : ℕ → Bool) where
   pub trim-le : (s : List ℕ) → length (trim w s) ≤ length s
   unfolding trim
   trim-le s = omega (arith, end-le (trimFront w s), front-le s)
+
+-- ---- trimming byte by byte
+
+module _ (w : ℕ → Bool) where
+  module _ (s : List ℕ) (i : ℕ) (h : i < length s) where
+    pub front-on : w (getD s i 0) ≡ true → trimFront w (drop i s) ≡ trimFront w (drop (i + 1) s)
+    unfolding trimFront pick
+    front-on e = rw (drop-cons s i 0 h, e, add-one i)
+
+    pub front-here : w (getD s i 0) ≡ false → trimFront w (drop i s) ≡ drop i s
+    unfolding trimFront pick
+    front-here e = rw (drop-cons s i 0 h, e)
+
+  pub end-on : (s : List ℕ) (x : ℕ) → w x ≡ true → trimEnd w (s ++ (x ∷ [])) ≡ trimEnd w s
+  unfolding trimEnd keepOr pick
+  end-on [] x e = rw e
+  end-on (c ∷ s) x e = rw (end-on s x e)
+
+  pub end-here : (s : List ℕ) (x : ℕ) → w x ≡ false → trimEnd w (s ++ (x ∷ [])) ≡ s ++ (x ∷ [])
+  unfolding trimEnd keepOr pick
+  end-here [] x e = rw e
+  end-here (c ∷ []) x e = rw (end-here [] x e)
+  end-here (c ∷ d ∷ s) x e = rw (end-here (d ∷ s) x e)
