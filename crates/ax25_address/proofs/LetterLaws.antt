@@ -1,17 +1,23 @@
--- The letters of an address field: where they start and where they end.
+-- The letters of an address field: where they start, where they end, and the call that they are.
 -- Assumes nothing.
-use mathlib.Core.Path.{_≡_, refl, sym, ap, _∙_}
+use mathlib.Core.Path.{_≡_, refl, sym, ap, ap₂, _∙_}
 use mathlib.Core.Bool.{Bool, true, false}
-use mathlib.Core.List.{List, [], _∷_, _++_, map}
-use Prim.Native.Nat.{ℕ, zero, suc, _+_, _-_, _/_, _≤_, _<_}
+use mathlib.Core.List.{List, [], _∷_, _++_, map, map-append}
+use Prim.Native.Nat.{ℕ, suc, _+_, _-_, _/_, _%_, _≤_, _<_}
 use native.Mathlib.Omega.{arith}
 use lib.ListN.{length, getD, take, drop, length-map, length-drop, drop-of-length-le, List·getD-map}
 use lib.Seq.{take-all, take-suc, length-take-le, getD-take, getD-drop}
 use lib.Dec.{leb}
 use borrow.Author.Tests.{le-leb, lt-leb}
-use Rattle.laws.specs.Text.{between, trimFront, trimEnd}
+use Rattle.laws.specs.Pick.{pick}
+use Rattle.laws.specs.Text.{between, upper, trimFront, trimEnd, trim}
 use Rattle.laws.proofs.TrimLaws.{front-on, front-here, end-on, end-here}
-use Rattle.ax25_address.specs.Address.{white, half}
+use Rattle.ax25_token.specs.declared.Call.{Call}
+use Rattle.ax25_token.specs.Call.{textOf, empty, pushed, appended}
+use Rattle.ax25_token.specs.Token.{suffix}
+use Rattle.ax25_token.proofs.CallLaws.{appended-append, len-appended, text-back}
+use Rattle.ax25_token.proofs.CleanLaws.{upper-suffix}
+use Rattle.ax25_address.specs.Address.{white, half, addrCall, casedOf}
 
 -- ---- white space by ranges
 
@@ -68,13 +74,17 @@ module _ (l : ℕ) (f : List ℕ) (h : l ≤ length f) where
     pub end-all : take (l - a) from ≡ from
     end-all = take-all (l - a) from (omega (arith, length-drop a (letters l f), letters-length))
 
-    -- the letter before a place
+    -- one letter more
+    pub next-letter : (i : ℕ) → a ≤ i → i < l → take (i + 1 - a) from ≡ take (i - a) from ++ ((getD f i 0 / 2) ∷ [])
+    next-letter i m n =
+        let s : i + 1 - a ≡ suc (i - a) = omega arith in
+        let p : a + (i - a) ≡ i = omega arith in
+        rw (s, take-suc from (i - a) 0 (omega (arith, length-drop a (letters l f), letters-length)), getD-drop a (letters l f) (i - a) 0, p, letter-at i n)
+
     one-more : (e : ℕ) → a < e → e ≤ l → take (e - a) from ≡ take (e - 1 - a) from ++ ((getD f (e - 1) 0 / 2) ∷ [])
     one-more e m n =
-        let i = e - 1 - a in
-        let s : e - a ≡ suc i = omega arith in
-        let p : a + i ≡ e - 1 = omega arith in
-        rw (s, take-suc from i 0 (omega (arith, length-drop a (letters l f), letters-length)), getD-drop a (letters l f) i 0, p, letter-at (e - 1) (omega arith))
+        let p : e - 1 + 1 ≡ e = omega arith in
+        rw p at (next-letter (e - 1) (omega arith) (omega arith))
 
     pub end-before : (e : ℕ) → a < e → e ≤ l → white (getD f (e - 1) 0 / 2) ≡ true → trimEnd white (take (e - a) from) ≡ trimEnd white (take (e - 1 - a) from)
     end-before e m n q = rw (one-more e m n) (end-on white (take (e - 1 - a) from) (getD f (e - 1) 0 / 2) q)
@@ -88,3 +98,49 @@ module _ (l : ℕ) (f : List ℕ) (h : l ≤ length f) where
         let z : e - a ≡ 0 = omega arith in
         let y : a - a ≡ 0 = omega arith in
         rw (z, y)
+
+-- ---- letters put into a call
+
+-- a letter as it is, and as a capital
+pub cased-as : {up : Bool} (x : ℕ) → up ≡ false → x ≡ casedOf up x
+unfolding casedOf pick
+cased-as x e = rw e
+
+pub cased-to : {up : Bool} (x y : ℕ) → up ≡ true → upper x ≡ y → y ≡ casedOf up x
+unfolding casedOf pick
+cased-to x y e h = rw (e, h)
+
+pub none-taken : (g : ℕ → ℕ) (a : ℕ) (s : List ℕ) → empty ≡ appended empty (map g (take (a - a) s))
+unfolding appended
+none-taken g a s = let z : a - a ≡ 0 = omega arith in rw z
+
+-- a call with a letter more
+pub letter-more : (g : ℕ → ℕ) (t u : List ℕ) (x : ℕ) (c d : Call) → u ≡ t ++ (x ∷ []) → c ≡ appended empty (map g t) → d ≡ pushed c (g x) → d ≡ appended empty (map g u)
+unfolding appended
+letter-more g t u x c d e f h =
+    h ∙ ap (λ (k : Call). pushed k (g x)) f ∙ appended-append empty (map g t) (g x ∷ []) ∙ ap (appended empty) (sym (map-append g t (x ∷ []))) ∙ ap (λ (s : List ℕ). appended empty (map g s)) (sym e)
+
+-- a suffix has no small letters
+cased-suffix : (up : Bool) (k : ℕ) → k < 16 → map (casedOf up) (suffix k) ≡ suffix k
+unfolding casedOf pick
+cased-suffix true k h = upper-suffix k h
+cased-suffix false k h = as-is (suffix k)
+  where
+    as-is : (s : List ℕ) → map (casedOf false) s ≡ s
+    as-is [] = refl
+    as-is (x ∷ s) = ap (λ (t : List ℕ). x ∷ t) (as-is s)
+
+-- the letters and the SSID are the text of the field
+pub field-text : (up : Bool) (l : ℕ) (f t : List ℕ) (k : ℕ) (c r : Call) → t ≡ trimEnd white (trimFront white (letters l f)) → k ≡ getD f l 0 / 2 % 16
+    → c ≡ appended empty (map (casedOf up) t) → r ≡ appended c (suffix k) → r .len ≤ 16 → textOf r ≡ map (casedOf up) (addrCall l f)
+unfolding addrCall trim
+field-text up l f t k c r et ek ec er n =
+    let g = casedOf up in
+    let s = map g t ++ suffix k in
+    let whole : r ≡ appended empty s = er ∙ ap (λ (x : Call). appended x (suffix k)) ec ∙ appended-append empty (map g t) (suffix k) in
+    let len : length s ≤ 16 = omega (arith, len-appended empty s, ap (λ (x : Call). x .len) whole) in
+    ap textOf whole
+    ∙ text-back s len
+    ∙ ap (λ (x : List ℕ). map g t ++ x) (sym (cased-suffix up k (omega arith)))
+    ∙ sym (map-append g t (suffix k))
+    ∙ ap₂ (λ (x : List ℕ) (y : ℕ). map g (x ++ suffix y)) et ek

@@ -26,7 +26,7 @@ unfolding appended
 appended-append c [] t = refl
 appended-append c (x ∷ s) t = appended-append (pushed c x) s t
 
-len-appended : (c : Call) (t : List ℕ) → appended c t .len ≡ c .len + length t
+pub len-appended : (c : Call) (t : List ℕ) → appended c t .len ≡ c .len + length t
 unfolding appended
 len-appended c [] = omega arith
 len-appended c (x ∷ t) = omega (arith, len-appended (pushed c x) t)
@@ -58,7 +58,7 @@ text-grows (x ∷ t) c h k =
     ∙ rw (add-one, take-suc-set (c .bytes) (c .len) x room, append-assoc (take (c .len) (c .bytes)) (x ∷ []) t)
 
 -- a call holds the text that was put into it
-text-back : (t : List ℕ) → length t ≤ 16 → textOf (appended empty t) ≡ t
+pub text-back : (t : List ℕ) → length t ≤ 16 → textOf (appended empty t) ≡ t
 unfolding textOf
 text-back t h = text-grows t empty refl (omega arith)
 

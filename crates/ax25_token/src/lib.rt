@@ -69,7 +69,7 @@ fn nothing() -> Decoded
 }
 
 // The call with a byte more.
-fn push(c: Call, b: u8) -> Call
+pub fn push(c: Call, b: u8) -> Call
     requires { ⌜ c .len < 16 ⌝ }
     ensures { λ r. ⌜ (r ≡ pushed c b) × (r .len ≡ c .len + 1) ⌝ }
 {
@@ -127,7 +127,7 @@ fn two_digits(c: Call, v: u64) -> Call
 }
 
 // The call with a hyphen and a number, 0 unwritten.
-fn suffixed(c: Call, v: u64) -> Call
+pub fn suffixed(c: Call, v: u64) -> Call
     requires { ⌜ (c .len ≤ 13) × (v < 100) ⌝ }
     ensures { λ r. ⌜ (r ≡ appended c (suffix v)) × (r .len ≤ c .len + 3) ⌝ }
 {
