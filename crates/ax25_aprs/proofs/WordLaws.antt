@@ -32,6 +32,19 @@ pub word-some : (n : ℕ) → 1 ≤ n → n ≤ 9 → 1 ≤ length (word n)
 unfolding word written
 word-some n h k = leb-true 1 (length (getD words (n - 1) [])) (at-each written 9 all-written (n - 1) (omega arith))
 
+-- and none has more than eight letters
+
+few : ℕ → Bool
+few n = leb (length (getD words n [])) 8
+
+all-few : below few 9 ≡ true
+unfolding below few words
+all-few = refl
+
+pub word-size : (n : ℕ) → 1 ≤ n → n ≤ 9 → length (word n) ≤ 8
+unfolding word few
+word-size n h k = leb-true (length (getD words (n - 1) [])) 8 (at-each few 9 all-few (n - 1) (omega arith))
+
 -- ---- the first word that is there
 
 record Found (k : ℕ) (ws : List (List ℕ)) (s : List ℕ) : Type 0 where
