@@ -1,13 +1,14 @@
 -- The word that a text starts with.
 -- Assumes nothing.
 use mathlib.Core.Path.{_≡_, refl, sym, _∙_}
-use mathlib.Core.Bool.{Bool, true}
+use mathlib.Core.Bool.{Bool, true, false}
 use mathlib.Core.List.{List, [], _∷_}
 use Prim.Native.Nat.{ℕ, suc, _+_, _-_, _≤_, _<_}
 use native.Mathlib.Nat.{add-zero, add-suc, suc-add}
+use native.Mathlib.Numerals.{add-one}
 use native.Mathlib.Omega.{arith}
 use lib.ListN.{length, getD, take, drop}
-use lib.Seq.{take-at}
+use lib.Seq.{take-at, drop-cons}
 use lib.Dec.{leb}
 use borrow.Author.Tests.{leb-true}
 use Rattle.laws.specs.Pick.{pick}
@@ -84,3 +85,30 @@ word-at s h =
       last-word = omega (arith, f .is-found, f .in-list);
       front = rw e (f .at-front);
     }
+
+-- ---- the words one by one, from word n on
+
+nine-words : length words ≡ 9
+unfolding words
+nine-words = refl
+
+module _ (n : ℕ) (s : List ℕ) (some-word : 1 ≤ n) (last-word : n ≤ 9) where
+  words-from : drop (n - 1) words ≡ word n ∷ drop n words
+  unfolding word
+  words-from =
+      let e : suc (n - 1) ≡ n = omega arith in
+      rw (drop-cons words (n - 1) [] (omega (arith, nine-words)), e)
+
+  pub first-here : starts (word n) s ≡ true → firstOf n (drop (n - 1) words) s ≡ n
+  unfolding firstOf pick
+  first-here e = rw (words-from, e)
+
+  pub first-later : starts (word n) s ≡ false → firstOf n (drop (n - 1) words) s ≡ firstOf (n + 1) (drop (n + 1 - 1) words) s
+  unfolding firstOf pick
+  first-later e =
+      let k : n + 1 - 1 ≡ n = omega arith in
+      rw (words-from, e, k, add-one)
+
+pub first-none : (s : List ℕ) → firstOf 10 (drop 9 words) s ≡ 0
+unfolding firstOf words
+first-none s = refl

@@ -1,4 +1,5 @@
 // The bodies of APRS frames: text with the dictionary and altitudes.
+mod height;
 mod number;
 pub mod text;
 mod words;

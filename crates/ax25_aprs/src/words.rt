@@ -2,8 +2,9 @@
 ghost use mathlib.Core.Path.{_≡_};
 ghost use Prim.Native.Nat.{_^_, _≤_, _<_};
 ghost use lib.ListN.{length, getD};
+ghost use Rattle.laws.specs.Text.{starts};
 ghost use Rattle.laws.specs.Wrote.{Wrote};
-ghost use Rattle.ax25_aprs.specs.Words.{word};
+ghost use Rattle.ax25_aprs.specs.Words.{word, wordAt};
 
 // Eight letters a word, with zeros behind it.
 const LETTERS: [u8; 72] =
@@ -25,6 +26,39 @@ pub fn letter(n: usize, j: usize) -> u8
     ensures { λ r. ⌜ r ≡ getD (word n) j 0 ⌝ }
 {
     LETTERS[(n - 1) * 8 + j]
+}
+
+// s starts with word n.
+fn starts_with(s: &[u8], n: usize) -> bool
+    requires { ⌜ (1 ≤ n) × (n ≤ 9) ⌝ }
+    ensures { λ r. ⌜ r ≡ starts (word n) (now (s .entry)) ⌝ }
+{
+    let size = size_of(n);
+    if s.len() < size {
+        return false;
+    }
+    let mut j = 0;
+    while j < size {
+        if s[j] != letter(n, j) {
+            return false;
+        }
+        j += 1;
+    }
+    true
+}
+
+// The first word that s starts with, or 0.
+pub fn word_at(s: &[u8]) -> usize
+    ensures { λ r. ⌜ r ≡ wordAt (now (s .entry)) ⌝ }
+{
+    let mut n = 1;
+    while n < 10 {
+        if starts_with(s, n) {
+            return n;
+        }
+        n += 1;
+    }
+    0
 }
 
 // Word n at a place. The next place.
