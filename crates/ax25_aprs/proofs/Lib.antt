@@ -1,8 +1,12 @@
 pub mod BodyBack
 pub mod CallLaws
+mod Dictionary
 pub mod Examples
+mod HeightLaws
 pub mod PlaceBack
 pub mod Sizes
+mod Steps
 pub mod TextBack
 pub mod TextLaws
+mod ValueLaws
 pub mod WordLaws

@@ -37,7 +37,7 @@ use Rattle.ax25_aprs.proofs.TextLaws.{bits-altitude, size-altitude, bit
 -- ---- text: at most seven bits a byte
 
 -- no more bytes are taken than there are
-size-le : (p : Bool) (s : List ℕ) → 0 < length s → frontSize p s ≤ length s
+pub size-le : (p : Bool) (s : List ℕ) → 0 < length s → frontSize p s ≤ length s
 unfolding altitudeAt
 size-le p s h =
     by-test (altitudeAt p s)
@@ -56,7 +56,7 @@ altitude-size none x e = absurd (Option·none-ne-some x e)
 altitude-size (some a) x e =
     rw (← Option·some-injective (bitsOf 7 1 ++ topBits 14 a) x e, length-append (bitsOf 7 1) (topBits 14 a), length-bits 7 1, length-top 14 a)
 
-front-size : (p : Bool) (s : List ℕ) (x : List Bool) → frontBits p s ≡ some x → length x ≤ 7 * frontSize p s
+pub front-size : (p : Bool) (s : List ℕ) (x : List Bool) → frontBits p s ≡ some x → length x ≤ 7 * frontSize p s
 front-size p s x e =
     by-test (altitudeAt p s)
     (λ a. omega (arith, size-altitude p s a, altitude-size (altitude (take 4 (drop 5 s))) x (sym (bits-altitude p s a) ∙ e)))

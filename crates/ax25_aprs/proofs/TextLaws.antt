@@ -4,32 +4,51 @@ use mathlib.Core.Path.{_≡_, refl, ap, _∙_}
 use mathlib.Core.Bool.{Bool, true, false}
 use mathlib.Core.List.{List, [], _∷_, _++_}
 use mathlib.Core.Option.{some}
-use Prim.Native.Nat.{ℕ, zero, suc, _+_, _-_, _^_, _≤_, _<_}
+use Prim.Native.Nat.{ℕ, zero, suc, _+_, _-_, _*_, _/_, _%_, _^_, _≤_, _<_}
 use native.Mathlib.Nat.{mod-eq-of-lt, not-suc-le-zero}
 use native.Mathlib.Omega.{arith}
 use lib.ListN.{length, getD, take, drop, replicate, length-append, length-replicate}
 use lib.Seq.{take-at, drop-at, drop-drop}
-use borrow.Author.Tests.{le-leb, lt-leb, lt-ltb, eq-eqb, ne-eqb}
+use lib.Dec.{eqb}
+use borrow.Author.Tests.{le-leb, lt-leb, lt-ltb, le-ltb, eq-eqb, ne-eqb}
 use Rattle.laws.specs.Bits.{num, bitsOf, valueOf}
 use Rattle.laws.specs.Digits.{Digits, digits}
 use Rattle.laws.specs.Pick.{pick}
 use Rattle.laws.specs.Text.{between, isDigit}
 use Rattle.laws.proofs.BitLaws.{length-bits, value-bits}
 use Rattle.laws.proofs.Cases.{by-test, by-le, by-eq}
-use Rattle.laws.proofs.DigitLaws.{digits-head, digits-tail}
+use Rattle.laws.proofs.DigitLaws.{digits-head, digits-tail, length-digits}
 use Rattle.laws.proofs.TrimLaws.{between-yes, between-above, trim-solid}
 use Rattle.bits.specs.Val.{valOf}
 use Rattle.bits.specs.Write.{topBits}
 use Rattle.bits.proofs.ValLaws.{val-lt, digits-val}
 use Rattle.ax25_aprs.specs.Words.{word, wordAt}
 use Rattle.ax25_aprs.specs.Text.{joined, allDigits, unsigned, noPlus, blank, altitude, altitudeBits, altitudeAt, frontBits, frontSize, textFrom, textBits, padded, altitudeText, codeText, codeSpan, readFrom, readText}
-use Rattle.ax25_aprs.proofs.WordLaws.{word-at, word-some}
+use Rattle.ax25_aprs.proofs.WordLaws.{word-at, word-some, word-size}
 
 -- ---- digits
 
-padded-few : (n v : ℕ) → v < 10 ^ n → padded n v ≡ digits n v
+pub padded-few : (n v : ℕ) → v < 10 ^ n → padded n v ≡ digits n v
 unfolding padded pick
 padded-few n v h = rw (lt-ltb v (10 ^ n) h)
+
+pub padded-more : (n v : ℕ) → 10 ^ n ≤ v → padded n v ≡ digits (suc n) v
+unfolding padded pick
+padded-more n v h = rw (le-ltb v (10 ^ n) h)
+
+length-padded : (n v : ℕ) → length (padded n v) ≤ suc n
+length-padded n v =
+    by-le (10 ^ n) v
+    (λ h. rw (padded-more n v h) (omega (arith, length-digits (suc n) v)))
+    (λ h. rw (padded-few n v h) (omega (arith, length-digits n v)))
+
+-- the first of n digits, and the others
+pub digits-first : (n v : ℕ) → 0 < n → digits n v ≡ (48 + v / 10 ^ (n - 1) % 10) ∷ digits (n - 1) v
+unfolding digits
+digits-first zero v h = absurd (omega arith)
+digits-first (suc n) v h =
+    let e : suc n - 1 ≡ n = omega arith in
+    rw e
 
 pub padded-val : (n : ℕ) (s : List ℕ) → length s ≡ n → Digits s → n ≤ 19 → padded n (valOf s) ≡ s
 padded-val n s e h l =
@@ -141,7 +160,7 @@ text-step p (c ∷ s) h =
 -- ---- what a code stands for
 
 module _ (p : Bool) (c : ℕ) (b : List Bool) where
-  code-zero : c ≡ 0 → codeText p c b ≡ []
+  pub code-zero : c ≡ 0 → codeText p c b ≡ []
   unfolding codeText pick
   code-zero e = rw (eq-eqb c 0 e)
 
@@ -152,6 +171,10 @@ module _ (p : Bool) (c : ℕ) (b : List Bool) where
   pub code-word : 2 ≤ c → c ≤ 9 → codeText p c b ≡ word c
   unfolding codeText pick
   code-word h k = rw (ne-eqb c 0 (λ z. omega arith), ne-eqb c 1 (λ z. omega arith), le-leb c 9 k)
+
+  pub code-none : 10 ≤ c → c ≤ 31 → codeText p c b ≡ []
+  unfolding codeText pick
+  code-none h k = rw (ne-eqb c 0 (λ z. omega arith), ne-eqb c 1 (λ z. omega arith), lt-leb c 9 h, le-leb c 31 k)
 
   pub code-self : 32 ≤ c → codeText p c b ≡ c ∷ []
   unfolding codeText pick
@@ -170,6 +193,42 @@ unfolding codeSpan pick
 span-other true c h = rw (ne-eqb c 1 h)
 span-other false c h = refl
 
+pub span-le : (p : Bool) (c : ℕ) → codeSpan p c ≤ 14
+unfolding codeSpan pick
+span-le false c = omega arith
+span-le true c = by-test (eqb c 1) (λ e. rw e (omega arith)) (λ e. rw e (omega arith))
+
+pub altitude-number : (b : List Bool) → altitudeText true b ≡ padded 4 (valueOf (take 14 b))
+unfolding altitudeText pick
+altitude-number b = refl
+
+pub altitude-no : (b : List Bool) → altitudeText false b ≡ []
+unfolding altitudeText pick
+altitude-no b = refl
+
+-- two bytes a bit at most
+one-length : (p : Bool) (c : ℕ) → c ≡ 1 → (b : List Bool) → length (word 1 ++ altitudeText p b) ≤ (7 + codeSpan p c) * 2
+unfolding altitudeText pick
+one-length true c e b =
+    rw (length-append (word 1) (padded 4 (valueOf (take 14 b))))
+    (omega (arith, word-size 1 (omega arith) (omega arith), length-padded 4 (valueOf (take 14 b)), span-altitude c e))
+one-length false c e b = rw (length-append (word 1) []) (omega (arith, word-size 1 (omega arith) (omega arith)))
+
+pub code-length : (p : Bool) (c : ℕ) (b : List Bool) → length (codeText p c b) ≤ (7 + codeSpan p c) * 2
+code-length p c b =
+    by-eq c 0
+    (λ e. rw (code-zero p c b e) (omega arith))
+    (λ z.
+    by-eq c 1
+    (λ e. rw (code-one p c b e) (one-length p c e b))
+    (λ n.
+    by-le c 9
+    (λ h. rw (code-word p c b (omega arith) h) (omega (arith, word-size c (omega arith) h)))
+    (λ h.
+    by-le c 31
+    (λ k. rw (code-none p c b h k) (omega arith))
+    (λ k. rw (code-self p c b k) (omega arith)))))
+
 -- ---- reading, a step
 
 read-skip : (p : Bool) (k : ℕ) (b : List Bool) → readFrom p k b ≡ readFrom p 0 (drop k b)
@@ -178,7 +237,12 @@ read-skip p zero b = refl
 read-skip p (suc k) [] = refl
 read-skip p (suc k) (x ∷ b) = read-skip p k b
 
-read-step : (p : Bool) (b : List Bool) → 7 ≤ length b
+pub read-short : (p : Bool) (b : List Bool) → length b < 7 → readText p b ≡ []
+unfolding readText readFrom pick
+read-short p [] h = refl
+read-short p (x ∷ b) h = rw (lt-leb 6 (length b) (omega arith))
+
+pub read-step : (p : Bool) (b : List Bool) → 7 ≤ length b
     → readText p b ≡ codeText p (valueOf (take 7 b)) (drop 7 b) ++ readText p (drop (7 + codeSpan p (valueOf (take 7 b))) b)
 unfolding readText readFrom pick
 read-step p [] h = absurd (not-suc-le-zero h)

@@ -1,13 +1,14 @@
 -- The word that a text starts with.
 -- Assumes nothing.
 use mathlib.Core.Path.{_≡_, refl, sym, _∙_}
-use mathlib.Core.Bool.{Bool, true}
+use mathlib.Core.Bool.{Bool, true, false}
 use mathlib.Core.List.{List, [], _∷_}
 use Prim.Native.Nat.{ℕ, suc, _+_, _-_, _≤_, _<_}
 use native.Mathlib.Nat.{add-zero, add-suc, suc-add}
+use native.Mathlib.Numerals.{add-one}
 use native.Mathlib.Omega.{arith}
 use lib.ListN.{length, getD, take, drop}
-use lib.Seq.{take-at}
+use lib.Seq.{take-at, drop-cons}
 use lib.Dec.{leb}
 use borrow.Author.Tests.{leb-true}
 use Rattle.laws.specs.Pick.{pick}
@@ -31,6 +32,19 @@ all-written = refl
 pub word-some : (n : ℕ) → 1 ≤ n → n ≤ 9 → 1 ≤ length (word n)
 unfolding word written
 word-some n h k = leb-true 1 (length (getD words (n - 1) [])) (at-each written 9 all-written (n - 1) (omega arith))
+
+-- and none has more than eight letters
+
+few : ℕ → Bool
+few n = leb (length (getD words n [])) 8
+
+all-few : below few 9 ≡ true
+unfolding below few words
+all-few = refl
+
+pub word-size : (n : ℕ) → 1 ≤ n → n ≤ 9 → length (word n) ≤ 8
+unfolding word few
+word-size n h k = leb-true (length (getD words (n - 1) [])) 8 (at-each few 9 all-few (n - 1) (omega arith))
 
 -- ---- the first word that is there
 
@@ -71,3 +85,30 @@ word-at s h =
       last-word = omega (arith, f .is-found, f .in-list);
       front = rw e (f .at-front);
     }
+
+-- ---- the words one by one, from word n on
+
+nine-words : length words ≡ 9
+unfolding words
+nine-words = refl
+
+module _ (n : ℕ) (s : List ℕ) (some-word : 1 ≤ n) (last-word : n ≤ 9) where
+  words-from : drop (n - 1) words ≡ word n ∷ drop n words
+  unfolding word
+  words-from =
+      let e : suc (n - 1) ≡ n = omega arith in
+      rw (drop-cons words (n - 1) [] (omega (arith, nine-words)), e)
+
+  pub first-here : starts (word n) s ≡ true → firstOf n (drop (n - 1) words) s ≡ n
+  unfolding firstOf pick
+  first-here e = rw (words-from, e)
+
+  pub first-later : starts (word n) s ≡ false → firstOf n (drop (n - 1) words) s ≡ firstOf (n + 1) (drop (n + 1 - 1) words) s
+  unfolding firstOf pick
+  first-later e =
+      let k : n + 1 - 1 ≡ n = omega arith in
+      rw (words-from, e, k, add-one)
+
+pub first-none : (s : List ℕ) → firstOf 10 (drop 9 words) s ≡ 0
+unfolding firstOf words
+first-none s = refl

@@ -1,1 +1,5 @@
-// The bodies of APRS frames: the definitions and their laws.
+// The bodies of APRS frames: text with the dictionary and altitudes.
+mod height;
+mod number;
+pub mod text;
+mod words;
