@@ -2,7 +2,7 @@
 -- Assumes nothing.
 use mathlib.Core.Path.{_≡_, refl}
 use mathlib.Core.Bool.{Bool, true, false}
-use mathlib.Core.List.{List, [], _∷_, _++_}
+use mathlib.Core.List.{List, [], _∷_}
 use mathlib.Core.Option.{none, some}
 use Prim.Native.Nat.{ℕ, suc, _≤_, _<_}
 use native.Mathlib.Omega.{arith}
@@ -10,8 +10,8 @@ use lib.ListN.{length, getD, take, drop}
 use lib.Seq.{drop-cons, take-suc}
 use borrow.Author.Tests.{lt-leb, eq-eqb, ne-eqb}
 use Rattle.laws.specs.Pick.{pick}
-use Rattle.laws.specs.Text.{between, isDigit, trimFront, keepOr, trimEnd}
-use Rattle.laws.proofs.TrimLaws.{between-yes, between-above}
+use Rattle.laws.specs.Text.{between, isDigit, trimEnd}
+use Rattle.laws.proofs.TrimLaws.{between-yes, between-above, end-on, end-here}
 use Rattle.bits.specs.Val.{valOf}
 use Rattle.ax25_aprs.specs.Text.{allDigits, unsigned, noPlus}
 
@@ -22,31 +22,11 @@ between-below a e c h = rw (lt-leb a c h)
 -- ---- byte by byte
 
 module _ (w : ℕ → Bool) (s : List ℕ) (i : ℕ) (h : i < length s) where
-  pub left-more : w (getD s i 0) ≡ true → trimFront w (drop i s) ≡ trimFront w (drop (suc i) s)
-  unfolding trimFront pick
-  left-more e = rw (drop-cons s i 0 h, e)
-
-  pub left-here : w (getD s i 0) ≡ false → trimFront w (drop i s) ≡ drop i s
-  unfolding trimFront pick
-  left-here e = rw (drop-cons s i 0 h, e)
-
-right-blank : (w : ℕ → Bool) (x : List ℕ) (c : ℕ) → w c ≡ true → trimEnd w (x ++ c ∷ []) ≡ trimEnd w x
-unfolding trimEnd keepOr pick
-right-blank w [] c e = rw e
-right-blank w (d ∷ x) c e = rw (right-blank w x c e)
-
-right-other : (w : ℕ → Bool) (x : List ℕ) (c : ℕ) → w c ≡ false → trimEnd w (x ++ c ∷ []) ≡ x ++ c ∷ []
-unfolding trimEnd keepOr pick
-right-other w [] c e = rw e
-right-other w (d ∷ []) c e = rw (right-other w [] c e)
-right-other w (d ∷ b ∷ x) c e = rw (right-other w (b ∷ x) c e)
-
-module _ (w : ℕ → Bool) (s : List ℕ) (i : ℕ) (h : i < length s) where
   pub right-more : w (getD s i 0) ≡ true → trimEnd w (take (suc i) s) ≡ trimEnd w (take i s)
-  right-more e = rw (take-suc s i 0 h) (right-blank w (take i s) (getD s i 0) e)
+  right-more e = rw (take-suc s i 0 h) (end-on w (take i s) (getD s i 0) e)
 
   pub right-here : w (getD s i 0) ≡ false → trimEnd w (take (suc i) s) ≡ take (suc i) s
-  right-here e = rw (take-suc s i 0 h) (right-other w (take i s) (getD s i 0) e)
+  right-here e = rw (take-suc s i 0 h) (end-here w (take i s) (getD s i 0) e)
 
 module _ (s : List ℕ) (i : ℕ) (h : i < length s) where
   pub digits-more : 48 ≤ getD s i 0 → getD s i 0 ≤ 57 → allDigits (drop i s) ≡ allDigits (drop (suc i) s)

@@ -2,7 +2,6 @@
 -- Assumes nothing.
 use native.Mathlib.Omega.{arith}
 use borrow.Author.Needs.{needs}
-use native.Mathlib.Numerals.{add-one}
 use mathlib.Core.Path.{_≡_, refl, sym, _∙_}
 use mathlib.Core.Bool.{true, false}
 use Prim.Native.Nat.{_-_, _≤_}
@@ -10,8 +9,8 @@ use lib.ListN.{length, getD, drop, drop-of-length-le}
 use borrow.Author.Tests.{not-true, not-false}
 use denote.Ref.{now}
 use Rattle.laws.specs.Text.{trimFront}
+use Rattle.laws.proofs.TrimLaws.{front-on, front-here}
 use Rattle.ax25_aprs.specs.Text.{blank}
-use Rattle.ax25_aprs.proofs.HeightLaws.{left-more, left-here}
 use Rattle.ax25_aprs.proofs.height.front.Statement.{statement}
 use Rattle.ax25_aprs.proofs.height.front.Tie as tie
 
@@ -36,7 +35,7 @@ returns c =
     let s = now (at-loop .before .before .args .s) in
     let i = at-loop .loop .i in
     let no : blank (getD s i 0) ≡ false = sym (c .before .is-blank .ensures) ∙ not-true _ (c .if1 .taken) in
-    (search needs, sym (left-here blank s i (omega arith) no) ∙ at-loop .loop .inv .1)
+    (search needs, sym (front-here blank s i (omega arith) no) ∙ at-loop .loop .inv .1)
 
 add-i : tie.Need-add-i Inv-loop μ-loop
 add-i c = search needs
@@ -50,7 +49,7 @@ loop-again c =
     let s = now (at-loop .before .before .args .s) in
     let i = at-loop .loop .i in
     let yes : blank (getD s i 0) ≡ true = sym (c .before .is-blank .ensures) ∙ not-false _ (c .if1 .left) in
-    (search needs, rw add-one (sym (left-more blank s i (omega arith) yes) ∙ at-loop .loop .inv .1))
+    (search needs, sym (front-on blank s i (omega arith) yes) ∙ at-loop .loop .inv .1)
 
 returns-2 : tie.Need-returns-2 Inv-loop μ-loop
 unfolding trimFront
