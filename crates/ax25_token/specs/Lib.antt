@@ -1,4 +1,5 @@
 pub mod Call
 pub mod Clean
+pub mod Put
 pub mod Tables
 pub mod Token

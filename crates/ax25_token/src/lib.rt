@@ -1,4 +1,6 @@
-// Call tokens: a call of at most 16 bytes, read from bits.
+// Call tokens: a call of at most 16 bytes, read from bits and written to bits.
+pub mod encode;
+
 ghost use mathlib.Core.Path.{_≡_};
 ghost use Prim.Native.Nat.{_+_, _-_, _^_, _≤_, _<_, ℕ};
 ghost use lib.ListN.{length, getD, drop};

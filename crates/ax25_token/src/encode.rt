@@ -1,0 +1,131 @@
+// The bits of a call: `token_encode` of the source.
+ghost use mathlib.Core.Path.{_≡_};
+ghost use mathlib.Core.List.{map};
+ghost use Prim.Native.Nat.{_+_, _^_, _≤_, _<_};
+ghost use lib.ListN.{length};
+ghost use Rattle.laws.specs.Bits.{unpack};
+ghost use Rattle.laws.specs.Wrote.{Wrote};
+ghost use Rattle.bits.specs.Val.{valOf};
+ghost use Rattle.ax25_token.specs.Put.{codeView, casedOf, Puts};
+ghost use Rattle.ax25_token.specs.Tables.{alphaOf};
+ghost use Rattle.ax25_token.specs.Token.{baseOf, behind, spell, ending, apBits, spelledBits};
+use bits::write::push;
+
+// The next position, or a bad call.
+pub enum Put {
+    Next(usize),
+    Bad,
+}
+
+// The code of a letter, or none.
+pub enum Code {
+    Is(u64),
+    Nothing,
+}
+
+// The code of a letter.
+fn alpha(x: u8) -> Code
+    ensures { λ r. ⌜ codeView r ≡ alphaOf x ⌝ }
+{
+    match x {
+        32 => Code::Is(0),
+        48..=57 => Code::Is(x as u64 - 21),
+        65..=90 => Code::Is(x as u64 - 64),
+        _ => Code::Nothing,
+    }
+}
+
+// A byte, in upper case where that is asked for.
+fn cased(x: u8, up: bool) -> u8
+    ensures { λ r. ⌜ r ≡ casedOf up x ⌝ }
+{
+    if !up {
+        return x;
+    }
+    if x < 97 {
+        return x;
+    }
+    if 122 < x {
+        return x;
+    }
+    x - 32
+}
+
+// The letters, 6 bits each.
+fn put_letters(c: &[u8], up: bool, out: &mut [u8], at: usize) -> Put
+    requires { ⌜ (length (now c) ≤ 16) × (at < 2 ^ 61) ⌝ }
+    ensures { λ r. ⌜ Puts (unpack (now (out .entry))) at (spell (map (casedOf up) (now (c .entry)))) (unpack (now (out .exit))) r ⌝ }
+{
+    let mut p = at;
+    let mut i = 0;
+    while i < c.len() {
+        let Code::Is(v) = alpha(cased(c[i], up)) else {
+            return Put::Bad;
+        };
+        p = push(out, p, v, 6);
+        i += 1;
+    }
+    Put::Next(p)
+}
+
+// 6 zero bits behind fewer than l letters.
+fn put_end(out: &mut [u8], at: usize, n: usize, l: usize) -> usize
+    requires { ⌜ at < 2 ^ 62 ⌝ }
+    ensures { λ r. ⌜ Wrote (unpack (now (out .entry))) at (ending l n) (unpack (now (out .exit))) r ⌝ }
+    ensures { λ r. ⌜ r ≤ at + 6 ⌝ }
+{
+    if l <= n {
+        return at;
+    }
+    push(out, at, 0, 6)
+}
+
+// The AP form: its index, the letters behind AP, and the end.
+fn put_ap(c: &[u8], l: usize, out: &mut [u8], at: usize) -> Put
+    requires { ⌜ (2 ≤ length (now c)) × (length (now c) ≤ 16) × (at < 2 ^ 60) ⌝ }
+    ensures { λ r. ⌜ Puts (unpack (now (out .entry))) at (apBits l (now (c .entry))) (unpack (now (out .exit))) r ⌝ }
+{
+    let p = push(out, at, 52, 6);
+    let Put::Next(q) = put_letters(&c[2..], false, out, p) else {
+        return Put::Bad;
+    };
+    Put::Next(put_end(out, q, c.len(), l))
+}
+
+// The place of the first hyphen, or the length.
+fn hyphen(c: &[u8]) -> usize
+    ensures { λ r. ⌜ r ≡ length (baseOf (now (c .entry))) ⌝ }
+{
+    let mut i = 0;
+    while i < c.len() {
+        if c[i] == b'-' {
+            return i;
+        }
+        i += 1;
+    }
+    i
+}
+
+// The number behind a hyphen at k, or 0.
+fn ssid(c: &[u8], k: usize) -> u64
+    requires { ⌜ k ≡ length (baseOf (now c)) ⌝ }
+    ensures { λ r. ⌜ r ≡ valOf (behind (now (c .entry))) ⌝ }
+{
+    if c.len() <= k {
+        return 0;
+    }
+    bits::vb_val(&c[k + 1..])
+}
+
+// A spelled call: the letters before the hyphen, the end, and 4 bits of SSID.
+fn put_spelled(c: &[u8], l: usize, out: &mut [u8], at: usize) -> Put
+    requires { ⌜ (length (now c) ≤ 16) × (at < 2 ^ 60) ⌝ }
+    ensures { λ r. ⌜ Puts (unpack (now (out .entry))) at (spelledBits l (now (c .entry))) (unpack (now (out .exit))) r ⌝ }
+{
+    let k = hyphen(c);
+    let Put::Next(p) = put_letters(&c[0..k], true, out, at) else {
+        return Put::Bad;
+    };
+    let q = put_end(out, p, k, l);
+    Put::Next(push(out, q, ssid(c, k), 4))
+}
