@@ -10,14 +10,15 @@ use lib.Seq.{take-all, take-suc, length-take-le, getD-take, getD-drop}
 use lib.Dec.{leb}
 use borrow.Author.Tests.{le-leb, lt-leb}
 use Rattle.laws.specs.Pick.{pick}
-use Rattle.laws.specs.Text.{between, upper, trimFront, trimEnd, trim}
+use Rattle.laws.specs.Text.{between, trimFront, trimEnd, trim}
 use Rattle.laws.proofs.TrimLaws.{front-on, front-here, end-on, end-here}
 use Rattle.ax25_token.specs.declared.Call.{Call}
 use Rattle.ax25_token.specs.Call.{textOf, empty, pushed, appended}
+use Rattle.ax25_token.specs.Put.{casedOf}
 use Rattle.ax25_token.specs.Token.{suffix}
 use Rattle.ax25_token.proofs.CallLaws.{appended-append, len-appended, text-back}
 use Rattle.ax25_token.proofs.CleanLaws.{upper-suffix}
-use Rattle.ax25_address.specs.Address.{white, half, addrCall, casedOf}
+use Rattle.ax25_address.specs.Address.{white, half, addrCall}
 
 -- ---- white space by ranges
 
@@ -100,15 +101,6 @@ module _ (l : ℕ) (f : List ℕ) (h : l ≤ length f) where
         rw (z, y)
 
 -- ---- letters put into a call
-
--- a letter as it is, and as a capital
-pub cased-as : {up : Bool} (x : ℕ) → up ≡ false → x ≡ casedOf up x
-unfolding casedOf pick
-cased-as x e = rw e
-
-pub cased-to : {up : Bool} (x y : ℕ) → up ≡ true → upper x ≡ y → y ≡ casedOf up x
-unfolding casedOf pick
-cased-to x y e h = rw (e, h)
 
 pub none-taken : (g : ℕ → ℕ) (a : ℕ) (s : List ℕ) → empty ≡ appended empty (map g (take (a - a) s))
 unfolding appended

@@ -22,10 +22,6 @@ half x = x / 2
 unfoldable pub addrCall : ℕ → List ℕ → List ℕ
 addrCall l a = trim white (map half (take l a)) ++ suffix (getD a l 0 / 2 % 16)
 
--- a letter, or its capital
-unfoldable pub casedOf : Bool → ℕ → ℕ
-casedOf up x = pick up (upper x) x
-
 -- bit 80 of the SSID byte, the H bit of a digipeater
 abbrev pub heardIn : ℕ → List ℕ → Bool
 heardIn l a = leb 0x80 (getD a l 0)

@@ -5,8 +5,10 @@ ghost use Prim.Native.Nat.{_-_, _≤_, _<_};
 ghost use lib.ListN.{length, take, drop};
 ghost use Rattle.laws.specs.Text.{trimFront, trimEnd};
 ghost use Rattle.ax25_token.specs.Call.{textOf, empty, appended};
-ghost use Rattle.ax25_address.specs.Address.{white, half, addrCall, casedOf};
+ghost use Rattle.ax25_token.specs.Put.{casedOf};
+ghost use Rattle.ax25_address.specs.Address.{white, half, addrCall};
 use ax25_token::Call;
+use ax25_token::encode::cased;
 use ax25_token::push;
 use ax25_token::suffixed;
 
@@ -55,22 +57,6 @@ fn end(f: &[u8], a: usize, l: usize) -> usize
         e -= 1;
     }
     a
-}
-
-// A letter, or its capital.
-fn cased(c: u8, up: bool) -> u8
-    ensures { λ r. ⌜ r ≡ casedOf up c ⌝ }
-{
-    if !up {
-        return c;
-    }
-    if c < b'a' {
-        return c;
-    }
-    if b'z' < c {
-        return c;
-    }
-    c - 32
 }
 
 // The letters from a to e as a call, as they are or as capitals.

@@ -36,7 +36,7 @@ fn alpha(x: u8) -> Code
 }
 
 // A byte, in upper case where that is asked for.
-fn cased(x: u8, up: bool) -> u8
+pub fn cased(x: u8, up: bool) -> u8
     ensures { λ r. ⌜ r ≡ casedOf up x ⌝ }
 {
     if !up {

@@ -8,7 +8,7 @@ use Prim.Native.Nat.{ℕ, _-_, _≤_}
 use lib.ListN.{take, drop}
 use denote.Ref.{now}
 use Rattle.ax25_token.specs.Call.{empty, pushed, appended}
-use Rattle.ax25_address.specs.Address.{casedOf}
+use Rattle.ax25_token.specs.Put.{casedOf}
 use Rattle.ax25_address.proofs.LetterLaws.{letters, next-letter, none-taken, letter-more}
 use Rattle.ax25_address.proofs.address.copied.Statement.{statement}
 use Rattle.ax25_address.proofs.address.copied.Tie as tie
