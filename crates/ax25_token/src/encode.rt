@@ -10,7 +10,7 @@ ghost use Rattle.laws.specs.Wrote.{Wrote};
 ghost use Rattle.bits.specs.Val.{valOf};
 ghost use Rattle.ax25_token.specs.Put.{codeView, casedOf, Puts};
 ghost use Rattle.ax25_token.specs.Tables.{alphaOf};
-ghost use Rattle.ax25_token.specs.Token.{baseOf, behind, spell, ending, plainAp, apBits, spelledBits};
+ghost use Rattle.ax25_token.specs.Token.{baseOf, behind, numberAt, spell, ending, plainAp, apBits, spelledBits};
 use bits::write::push;
 
 // The next position, or a bad call.
@@ -197,4 +197,18 @@ fn one_of(c: &[u8], v: &[u8], w: &[u8], x: &[u8], y: &[u8]) -> bool
         return true;
     }
     same(c, y)
+}
+
+// The number in n bytes from a place on, as far as there are any.
+fn number_at(c: &[u8], a: usize, n: usize) -> u64
+    requires { ⌜ (a ≤ 16) × (n ≤ 16) ⌝ }
+    ensures { λ r. ⌜ r ≡ numberAt (now (c .entry)) a n ⌝ }
+{
+    if c.len() <= a {
+        return 0;
+    }
+    if c.len() <= a + n {
+        return bits::vb_val(&c[a..]);
+    }
+    bits::vb_val(&c[a..a + n])
 }
