@@ -2,28 +2,30 @@
 -- Assumes nothing.
 use mathlib.Core.Path.{_≡_, refl, sym, ap, subst, _∙_}
 use mathlib.Core.Bool.{Bool, true, false}
-use mathlib.Core.List.{List, [], _∷_, _++_, map}
+use mathlib.Core.List.{List, [], _∷_, _++_, map, append-nil}
 use mathlib.Core.Option.{Option, none, some}
-use Prim.Native.Nat.{ℕ, zero, suc, _+_, _*_, _≤_, _<_}
+use Prim.Native.Nat.{ℕ, zero, suc, _+_, _*_, _≤_, _<_, suc-le-suc}
 use native.Mathlib.Numerals.{add-one}
 use native.Mathlib.Omega.{arith}
+use mathlib.Core.Bool.{_||_, not, false≢true}
 use lib.ListN.{length, take, drop, getD, drop-of-length-le, length-map}
 use lib.Dec.{eqb}
 use lib.Seq.{drop-cons, length-take-le}
 use Rattle.laws.specs.Bits.{bitsOf}
 use Rattle.laws.specs.Pick.{pick, _>>=_}
-use Rattle.laws.specs.Text.{upper}
+use Rattle.laws.specs.Text.{ascii, upper, same, isOneOf, starts}
 use Rattle.laws.specs.Wrote.{Wrote}
-use Rattle.laws.proofs.Cases.{by-test}
+use Rattle.laws.proofs.Cases.{by-test, by-le, and-left}
+use Rattle.laws.proofs.TextLaws.{same-eq, eq-same, ne-same, starts-eq, starts-append, starts-short}
 use Rattle.laws.proofs.WroteLaws.{wrote-none, wrote-then}
 use Rattle.ax25_token.specs.declared.encode.Put.{Put}
 use Rattle.ax25_token.specs.declared.encode.Put.the-variants.{Next, Bad}
 use Rattle.ax25_token.specs.Put.{casedOf, Puts}
 use Rattle.ax25_token.specs.Tables.{symOf, alphaOf}
 use Rattle.bits.specs.Val.{valOf}
-use Rattle.ax25_token.specs.Token.{baseOf, behind, spell, ending, apBits, spelledBits}
+use Rattle.ax25_token.specs.Token.{hyphened, baseOf, behind, spell, ending, plainAp, apBits, spelledBits}
 use Rattle.ax25_token.proofs.Cases.{spell-bad, ap-symbol}
-use Rattle.ax25_token.proofs.Hyphen.{hyphened-no, base-plain, base-at}
+use Rattle.ax25_token.proofs.Hyphen.{base-short, hyphened-no, base-plain, base-at}
 use Rattle.ax25_token.proofs.Sizes.{spell-size}
 
 -- ---- an answer after bits
@@ -151,3 +153,51 @@ module _ (b : List Bool) (at l : ℕ) (c s : List ℕ) (whole : s ≡ baseOf c) 
   unfolding spelledBits
   spelled-refused z g =
       puts-bad b b e g at at (λ y. y ++ (ending l (length (baseOf c)) ++ bitsOf 4 (valOf (behind c)))) (spell (map upper (baseOf c))) (spelled-told Bad z)
+
+-- ---- a hyphen, by how much stands before it
+
+base-less : (c : List ℕ) → hyphened c ≡ true → length (baseOf c) < length c
+unfolding hyphened baseOf pick
+base-less [] e = absurd (false≢true e)
+base-less (x ∷ c) e = by-test (eqb x 45) (λ q. rw q (omega arith)) (λ q. rw q (suc-le-suc (base-less c (rw q at e))))
+
+module _ (c : List ℕ) (k : ℕ) (e : k ≡ length (baseOf c)) where
+  pub hyphen-in : k < length c → hyphened c ≡ true
+  hyphen-in h = by-test (hyphened c) (λ q. q) (λ q. absurd (omega (arith, h, e, ap length (base-plain c q))))
+
+  pub hyphen-out : length c ≤ k → hyphened c ≡ false
+  hyphen-out h = by-test (hyphened c) (λ q. absurd (omega (arith, h, e, base-less c q))) (λ q. q)
+
+pub plain-size : (c : List ℕ) → plainAp c ≡ true → 2 ≤ length c
+unfolding plainAp
+plain-size c e =
+    by-le 2 (length c) (λ h. h)
+    (λ h. absurd (false≢true (sym (starts-short (ascii "AP") c h) ∙ and-left (starts (ascii "AP") c) (not (hyphened c)) e)))
+
+-- ---- the same text
+
+pub starts-self : (n : List ℕ) → starts n n ≡ true
+unfolding starts
+starts-self n = by-test (starts n n) (λ e. e) (λ e. absurd (false≢true (sym e ∙ ap (starts n) (sym (append-nil n)) ∙ starts-append n [])))
+
+pub same-starts : (c n : List ℕ) → length c ≡ length n → starts n c ≡ same c n
+same-starts c n h =
+    by-test (starts n c)
+    (λ e. e ∙ sym (eq-same c n (starts-eq n c e ∙ ap (λ (t : List ℕ). n ++ t) (drop-of-length-le c {i = length n} (omega (arith, h))) ∙ append-nil n)))
+    (λ e. e ∙ sym (ne-same c n (λ q. false≢true (sym e ∙ ap (starts n) q ∙ starts-self n))))
+
+pub same-not : (c n : List ℕ) → (length c ≡ length n → ⊥) → false ≡ same c n
+same-not c n h = sym (ne-same c n (λ q. h (ap length q)))
+
+module _ (c n : List ℕ) (ns : List (List ℕ)) where
+  pub one-hit : same c n ≡ true → isOneOf c (n ∷ ns) ≡ true
+  unfolding isOneOf
+  one-hit e = rw e
+
+  pub one-miss : same c n ≡ false → isOneOf c (n ∷ ns) ≡ isOneOf c ns
+  unfolding isOneOf
+  one-miss e = rw e
+
+pub one-last : (c n : List ℕ) → isOneOf c (n ∷ []) ≡ same c n
+unfolding isOneOf
+one-last c n = by-test (same c n) (λ e. rw e) (λ e. rw e)

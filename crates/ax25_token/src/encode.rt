@@ -1,14 +1,16 @@
 // The bits of a call: `token_encode` of the source.
 ghost use mathlib.Core.Path.{_≡_};
-ghost use mathlib.Core.List.{map};
+ghost use mathlib.Core.List.{[], _∷_, map};
 ghost use Prim.Native.Nat.{_+_, _^_, _≤_, _<_};
 ghost use lib.ListN.{length};
 ghost use Rattle.laws.specs.Bits.{unpack};
+ghost use Rattle.laws.specs.Pick.{pick};
+ghost use Rattle.laws.specs.Text.{same, isOneOf, starts};
 ghost use Rattle.laws.specs.Wrote.{Wrote};
 ghost use Rattle.bits.specs.Val.{valOf};
 ghost use Rattle.ax25_token.specs.Put.{codeView, casedOf, Puts};
 ghost use Rattle.ax25_token.specs.Tables.{alphaOf};
-ghost use Rattle.ax25_token.specs.Token.{baseOf, behind, spell, ending, apBits, spelledBits};
+ghost use Rattle.ax25_token.specs.Token.{baseOf, behind, numberAt, spell, ending, plainAp, apBits, spelledBits};
 use bits::write::push;
 
 // The next position, or a bad call.
@@ -128,4 +130,85 @@ fn put_spelled(c: &[u8], l: usize, out: &mut [u8], at: usize) -> Put
     };
     let q = put_end(out, p, k, l);
     Put::Next(push(out, q, ssid(c, k), 4))
+}
+
+// c starts with w.
+fn starts(c: &[u8], w: &[u8]) -> bool
+    ensures { λ r. ⌜ r ≡ starts (now (w .entry)) (now (c .entry)) ⌝ }
+{
+    if c.len() < w.len() {
+        return false;
+    }
+    let mut i = 0;
+    while i < w.len() {
+        if w[i] != c[i] {
+            return false;
+        }
+        i += 1;
+    }
+    true
+}
+
+// A call that starts with AP and has no hyphen.
+fn plain_ap(c: &[u8]) -> bool
+    ensures { λ r. ⌜ r ≡ plainAp (now (c .entry)) ⌝ }
+{
+    if starts(c, b"AP") {
+        if hyphen(c) < c.len() {
+            return false;
+        }
+        return true;
+    }
+    false
+}
+
+// A call that has no name: the AP form, or spelled.
+fn put_unnamed(c: &[u8], l: usize, out: &mut [u8], at: usize) -> Put
+    requires { ⌜ (length (now c) ≤ 16) × (at < 2 ^ 60) ⌝ }
+    ensures { λ r. ⌜ Puts (unpack (now (out .entry))) at (pick (plainAp (now (c .entry))) (apBits l (now (c .entry))) (spelledBits l (now (c .entry)))) (unpack (now (out .exit))) r ⌝ }
+{
+    if plain_ap(c) {
+        return put_ap(c, l, out, at);
+    }
+    put_spelled(c, l, out, at)
+}
+
+// The same bytes.
+fn same(c: &[u8], n: &[u8]) -> bool
+    ensures { λ r. ⌜ r ≡ same (now (c .entry)) (now (n .entry)) ⌝ }
+{
+    if c.len() != n.len() {
+        return false;
+    }
+    starts(c, n)
+}
+
+// One of four texts.
+fn one_of(c: &[u8], v: &[u8], w: &[u8], x: &[u8], y: &[u8]) -> bool
+    ensures { λ r. ⌜ r ≡ isOneOf (now (c .entry)) (now (v .entry) ∷ now (w .entry) ∷ now (x .entry) ∷ now (y .entry) ∷ []) ⌝ }
+{
+    if same(c, v) {
+        return true;
+    }
+    if same(c, w) {
+        return true;
+    }
+    if same(c, x) {
+        return true;
+    }
+    same(c, y)
+}
+
+// The number in n bytes from a place on, as far as there are any.
+fn number_at(c: &[u8], a: usize, n: usize) -> u64
+    requires { ⌜ (a ≤ 16) × (n ≤ 16) ⌝ }
+    ensures { λ r. ⌜ r ≡ numberAt (now (c .entry)) a n ⌝ }
+{
+    if c.len() <= a {
+        return 0;
+    }
+    if c.len() <= a + n {
+        return bits::vb_val(&c[a..]);
+    }
+    bits::vb_val(&c[a..a + n])
 }
