@@ -3,9 +3,10 @@ ghost use mathlib.Core.Path.{_≡_};
 ghost use mathlib.Core.Bool.{_&&_};
 ghost use Prim.Native.Nat.{_+_, _^_, _≤_, _<_};
 ghost use lib.ListN.{length, getD, drop};
-ghost use Rattle.laws.specs.Text.{isDigit, starts};
+ghost use Rattle.laws.specs.Text.{isDigit};
 ghost use Rattle.ax25_address.specs.Classify.{anyHigh, oneOf, marksAt, isPosition, isTimestamped, isMessage, stopsAt, endsAt, tally, scanThird, isThird, classifyOf};
 ghost use Rattle.ax25_address.specs.Kind.{typeNumber};
+use ax25_token::encode::starts;
 
 // What the information of a frame is.
 pub enum AprsType {
@@ -119,23 +120,6 @@ fn is_message(d: &[u8]) -> bool
         return false;
     }
     d[10] == b':'
-}
-
-// d starts with w.
-fn starts(d: &[u8], w: &[u8]) -> bool
-    ensures { λ r. ⌜ r ≡ starts (now (w .entry)) (now (d .entry)) ⌝ }
-{
-    if d.len() < w.len() {
-        return false;
-    }
-    let mut i = 0;
-    while i < w.len() {
-        if w[i] != d[i] {
-            return false;
-        }
-        i += 1;
-    }
-    true
 }
 
 // A first comma that "TCPIP," does not follow.

@@ -133,7 +133,7 @@ fn put_spelled(c: &[u8], l: usize, out: &mut [u8], at: usize) -> Put
 }
 
 // c starts with w.
-fn starts(c: &[u8], w: &[u8]) -> bool
+pub fn starts(c: &[u8], w: &[u8]) -> bool
     ensures { λ r. ⌜ r ≡ starts (now (w .entry)) (now (c .entry)) ⌝ }
 {
     if c.len() < w.len() {
