@@ -24,7 +24,7 @@ use Rattle.ax25_address.proofs.AddressLaws.{starts-call}
 use Rattle.ax25_address.proofs.ParseLaws.{none-high, type-wide, type-narrow, not-binary}
 use Rattle.ax25_aprs.specs.Plain.{PlainBody, position, timestamped, message}
 use Rattle.ax25_aprs.proofs.BodyBack.{body-back}
-use Rattle.ax25.specs.Encode.{digiCode, typeWidth, headerOf, bodyBytes, frameBits, codeParsed, encodeOf}
+use Rattle.ax25.specs.Encode.{digiCode, typeWidth, headerOf, bodyBytes, infoBits, frameBits, codeParsed, encodeOf}
 use Rattle.ax25.specs.Decode.{digiCount, known, bytesIn, readInfo, readFrame, addresses}
 use Rattle.ax25.specs.Plain.{addressField, PlainInfo, text, binary, body, Plain}
 use Rattle.ax25.proofs.HeadBack.{HeadBack, head-back, addresses-back}
@@ -138,7 +138,7 @@ module _ {d : List ℕ} (f : Plain d) where
   head-is k = head-back (f .dest) (f .src) (f .digis) typ (plainParsed f) (f .clean) (type-fits ap? (f .info), k) refl refl refl refl
 
   text-body : typ ≡ Text → (out : List Bool) → Body out
-  unfolding frameBits readInfo bodyBytes pick
+  unfolding frameBits infoBits readInfo bodyBytes pick
   text-body e out =
       let low = none-high (f .info) (not-binary ap? (f .info) (λ q. omega arith)) in
       let t = text7Bits (length out) (lastOr false out) (f .info) in
@@ -152,7 +152,7 @@ module _ {d : List ℕ} (f : Plain d) where
       }
 
   binary-body : typ ≡ Binary → (out : List Bool) → Body out
-  unfolding frameBits readInfo bodyBytes bytesIn pick
+  unfolding frameBits infoBits readInfo bodyBytes bytesIn pick
   binary-body e out =
       let z = zeros (out ++ unpack (f .info)) in
       let whole : length (unpack (f .info) ++ replicate (z .0) false) / 8 ≡ length (f .info) =
@@ -166,7 +166,7 @@ module _ {d : List ℕ} (f : Plain d) where
       }
 
   own-body : PlainBody typ (f .info) → (out : List Bool) → Body out
-  unfolding frameBits readInfo bodyBytes pick
+  unfolding frameBits infoBits readInfo bodyBytes pick
   own-body x out =
       let o = own x in
       let y = body-back 6 (omega arith) (omega arith) x in

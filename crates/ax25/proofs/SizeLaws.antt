@@ -4,7 +4,7 @@ use mathlib.Core.Path.{_≡_, refl}
 use mathlib.Core.Bool.{Bool, true, false, _&&_}
 use mathlib.Core.List.{List, [], _∷_, _++_}
 use mathlib.Core.Option.{Option, none, some, Option·some-injective}
-use Prim.Native.Nat.{ℕ, zero, suc, _+_, _*_, _≤_, _<_}
+use Prim.Native.Nat.{ℕ, zero, suc, _+_, _-_, _*_, _≤_, _<_}
 use native.Mathlib.Nat.{suc-mul}
 use native.Mathlib.Omega.{arith}
 use lib.ListN.{length, drop, getD, length-append, length-drop}
@@ -25,7 +25,7 @@ use Rattle.ax25_address.proofs.SizeLaws.{AllBase, Sized, parse-size}
 use Rattle.ax25_aprs.specs.Body.{bodyBits}
 use Rattle.ax25_aprs.specs.Third.{thirdBits}
 use Rattle.ax25_aprs.proofs.Sizes.{AtMost, answer-most, le-most, pick-most, then-most, body-size, third-size}
-use Rattle.ax25.specs.Encode.{digiCode, typeWidth, headerOf, bodyBytes, tokensBits, digiBits, headBits, frameBits, Coded, orThree, orFour, packed, codeParsed, encodeOf}
+use Rattle.ax25.specs.Encode.{digiCode, typeWidth, headerOf, bodyBytes, tokensBits, digiBits, headBits, infoBits, frameBits, Coded, orThree, orFour, packed, codeParsed, encodeOf}
 
 -- ---- the head
 
@@ -84,23 +84,26 @@ module _ (l : ℕ) (two : 2 ≤ l) (high : l ≤ 9) where
   body-bytes r = by-test (isUi r) (λ e. rw e (omega arith)) (λ e. rw e (omega arith))
 
   -- eight bits for each byte at most, or seven and the third party's calls
-  frame-size : (r : Parsed) (typ : ℕ) (head : List Bool) (n : ℕ) → length head + (8 * length (r .info) + 16) ≤ n → length head + (7 * length (r .info) + 252) ≤ n
-      → AtMost n (frameBits l r typ head)
-  unfolding frameBits
-  frame-size r typ head n h k =
-      let a = length head in
+  info-size : (r : Parsed) (typ : ℕ) (head : List Bool) (m : ℕ) → 8 * length (r .info) + 16 ≤ m → 7 * length (r .info) + 252 ≤ m → AtMost m (infoBits l r typ head)
+  unfolding infoBits
+  info-size r typ head m h k =
       let i = drop 1 (r .info) in
-      let t = text7Bits a (lastOr false head) (bodyBytes r) in
+      let t = text7Bits (length head) (lastOr false head) (bodyBytes r) in
       let u = unpack (bodyBytes r) in
       let d : length i ≤ length (r .info) = omega (arith, length-drop 1 (r .info)) in
-      let first = answer-most a head (omega arith) in
-      pick-most n (eqb typ Text) _ _
-      (λ _. answer-most n (head ++ t) (omega (arith, length-append head t, length-text7 a (lastOr false head) (bodyBytes r), body-bytes r)))
-      (λ _. pick-most n (eqb typ Binary) _ _
-      (λ _. answer-most n (head ++ u) (omega (arith, length-append head u, length-unpack (bodyBytes r), body-bytes r)))
-      (λ _. pick-most n (eqb typ ThirdParty) _ _
-      (λ _. le-most (a + (7 * length i + 252)) n _ (omega arith) (then-most a (7 * length i + 252) (answer head) (thirdBits l i) first (third-size l two high i)))
-      (λ _. le-most (a + (7 * length i + 58)) n _ (omega arith) (then-most a (7 * length i + 58) (answer head) (bodyBits typ l i) first (body-size l two high typ i)))))
+      pick-most m (eqb typ Text) _ _
+      (λ _. answer-most m t (omega (arith, length-text7 (length head) (lastOr false head) (bodyBytes r), body-bytes r)))
+      (λ _. pick-most m (eqb typ Binary) _ _
+      (λ _. answer-most m u (omega (arith, length-unpack (bodyBytes r), body-bytes r)))
+      (λ _. pick-most m (eqb typ ThirdParty) _ _
+      (λ _. le-most (7 * length i + 252) m _ (omega arith) (third-size l two high i))
+      (λ _. le-most (7 * length i + 58) m _ (omega arith) (body-size l two high typ i))))
+
+  frame-size : (r : Parsed) (typ : ℕ) (head : List Bool) (m : ℕ) → 8 * length (r .info) + 16 ≤ m → 7 * length (r .info) + 252 ≤ m
+      → AtMost (length head + m) (frameBits l r typ head)
+  unfolding frameBits
+  frame-size r typ head m h k =
+      then-most (length head) m (answer head) (infoBits l r typ head) (answer-most (length head) head (omega arith)) (info-size r typ head m h k)
 
 -- ---- the message
 
@@ -162,7 +165,7 @@ module _ (command : ℕ) (d : List ℕ) (small : length d ≤ 4999) (c : Coded) 
       four-from (headBits (callLen command) r typ) _ c f
       (λ head eh g.
       let m = head-size l two high r (length d) s typ head (rw el at eh) in
-      packed-bounds (headerOf command r) typ (frameBits (callLen command) r typ head) c (header-low command r (s .few)) (rw el (frame-size l two high r typ head 39992 (omega (arith, q .0)) (omega (arith, q .1)))) g))
+      packed-bounds (headerOf command r) typ (frameBits (callLen command) r typ head) c (header-low command r (s .few)) (rw el (le-most (length head + (39992 - length head)) 39992 _ (omega (arith, q .0)) (frame-size l two high r typ head (39992 - length head) (omega (arith, q .0)) (omega (arith, q .1))))) g))
 
   pub encode-bounds : encodeOf command d ≡ answer c → Bounds (c .bytes)
   unfolding pick

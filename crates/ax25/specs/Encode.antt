@@ -60,13 +60,17 @@ module _ (l : ℕ) where
     v ← digiBits (isAp r) (r .digis)
     some (r .heard ++ (d ++ (s ++ (v ++ bitsOf (typeWidth (isAp r)) typ))))
 
+  -- the body behind the bits of the head
+  unfoldable pub infoBits : Parsed → ℕ → List Bool → Outcome (List Bool)
+  infoBits r typ head =
+      pick (eqb typ Text) (answer (text7Bits (length head) (lastOr false head) (bodyBytes r)))
+      (pick (eqb typ Binary) (answer (unpack (bodyBytes r)))
+      (pick (eqb typ ThirdParty) (thirdBits l (drop 1 (r .info)))
+      (bodyBits typ l (drop 1 (r .info)))))
+
   -- all the bits: the head, and the body
   unfoldable pub frameBits : Parsed → ℕ → List Bool → Outcome (List Bool)
-  frameBits r typ head =
-      pick (eqb typ Text) (answer (head ++ text7Bits (length head) (lastOr false head) (bodyBytes r)))
-      (pick (eqb typ Binary) (answer (head ++ unpack (bodyBytes r)))
-      (pick (eqb typ ThirdParty) (answer head then thirdBits l (drop 1 (r .info)))
-      (answer head then bodyBits typ l (drop 1 (r .info)))))
+  frameBits r typ head = answer head then infoBits r typ head
 
 -- bytes and their type
 pub record Coded : Type 0 where

@@ -23,7 +23,7 @@ use Rattle.ax25_address.specs.Types.{Ax25, Generic}
 use Rattle.ax25_address.specs.Address.{white, half, addrCall, double, cutTo, ssidOf, callBytes}
 use Rattle.ax25_address.specs.Classify.{anyHigh, classifyOf}
 use Rattle.ax25_address.specs.Parse.{splitOff, digiFields, parseOf, typeOf}
-use Rattle.ax25.specs.Encode.{Coded, headerOf, bodyBytes, tokensBits, digiBits, headBits, frameBits, codeParsed, encodeOf}
+use Rattle.ax25.specs.Encode.{Coded, headerOf, bodyBytes, tokensBits, digiBits, headBits, infoBits, frameBits, codeParsed, encodeOf}
 use Rattle.ax25.specs.Decode.{marked, readTokens, readDigis, readHead, readInfo, addresses, readFrame}
 use Rattle.kiss.specs.Generic.{genericOf, genericBack}
 use Rattle.kiss.specs.Codec.{codeOf, Decoded, decodeOf, decodeMessage, decodeSome}
@@ -116,5 +116,5 @@ all [] = true
 all (e ∷ es) = holds e && all es
 
 pub table-holds : all table ≡ true
-unfolding frame message table givesMessage givesData givesCount isRefused givesFragment givesBits givesCall holds all odd num bitsOf valueOf fit packN pack unpack pick between upper same isOneOf starts later position trimFront keepOr trimEnd trim crcBit crcSteps crcByte crcFrom crcOf crcBits takeBits takeText sevens unsevens lastOr text7Bits differ counted endOf text7Of stops nextVal valFrom valOf ceiling countOf countFor checkOf leadOf fragmentOf mostOf sendOf callAlphabet long symOf alphaOf wideTokens wideRow pairRows pairTexts fixedRows numberedRows hyphened baseOf behind numberAt twoDigits decimal suffix pairBits pairsBits fixedBits takes numberedBits spell ending plainAp apBits spelledBits orElse tokenBits after pairForm fixedForm numberedForm symbolForm formOf wideNumber readPair readNumber letterOf goOn readLetters readSpelled readForm readToken white half addrCall double cutTo ssidOf callBytes anyHigh classifyOf splitOff digiFields parseOf typeOf headerOf bodyBytes tokensBits digiBits headBits frameBits codeParsed encodeOf marked readTokens readDigis readHead readInfo addresses readFrame genericOf genericBack codeOf decodeMessage decodeSome decodeOf
+unfolding frame message table givesMessage givesData givesCount isRefused givesFragment givesBits givesCall holds all odd num bitsOf valueOf fit packN pack unpack pick between upper same isOneOf starts later position trimFront keepOr trimEnd trim crcBit crcSteps crcByte crcFrom crcOf crcBits takeBits takeText sevens unsevens lastOr text7Bits differ counted endOf text7Of stops nextVal valFrom valOf ceiling countOf countFor checkOf leadOf fragmentOf mostOf sendOf callAlphabet long symOf alphaOf wideTokens wideRow pairRows pairTexts fixedRows numberedRows hyphened baseOf behind numberAt twoDigits decimal suffix pairBits pairsBits fixedBits takes numberedBits spell ending plainAp apBits spelledBits orElse tokenBits after pairForm fixedForm numberedForm symbolForm formOf wideNumber readPair readNumber letterOf goOn readLetters readSpelled readForm readToken white half addrCall double cutTo ssidOf callBytes anyHigh classifyOf splitOff digiFields parseOf typeOf headerOf bodyBytes tokensBits digiBits headBits infoBits frameBits codeParsed encodeOf marked readTokens readDigis readHead readInfo addresses readFrame genericOf genericBack codeOf decodeMessage decodeSome decodeOf
 table-holds = refl
