@@ -2,3 +2,4 @@ pub mod CodeBounds
 pub mod CodecBack
 pub mod GenericBack
 pub mod GenericLaws
+pub mod TellLaws

@@ -1,3 +1,4 @@
 pub mod Back
 pub mod Codec
 pub mod Generic
+pub mod Told

@@ -1,0 +1,28 @@
+-- Document 01's number and values for each answer of the three calls, and what they leave in a lent output.
+-- Assumes nothing.
+use mathlib.Core.List.{List}
+use Prim.Native.Nat.{ℕ}
+use lib.ListN.{length}
+use lib.Seq.{sets}
+use lib.Dec.{ltb}
+use Rattle.laws.specs.Pick.{pick}
+use Rattle.refusals.specs.Outcome.{Outcome, refused, answer}
+use Rattle.ax25_address.specs.Kind.{typeNumber}
+use Rattle.ax25.specs.Encode.{Coded}
+use Rattle.kiss.specs.declared.Encoded.{Encoded}
+use Rattle.kiss.specs.declared.Encoded.the-variants.{Refused, Bytes}
+
+-- the outcome of a call that writes bytes and answers their number with a value beside it, and the lent output afterwards.
+-- 6: "lent output shorter than the answer". A refusal leaves "all as before", and "past an answer's end the lent output is unchanged"
+unfoldable pub intoWith : {A B : Type 0} → (A → List ℕ) → (A → B) → Outcome A → List ℕ → Outcome (ℕ × B) × List ℕ
+intoWith bytes value (refused n) out = (refused n, out)
+intoWith bytes value (answer a) out =
+    pick (ltb (length out) (length (bytes a))) (refused 6, out) (answer (length (bytes a), value a), sets out 0 (bytes a))
+
+-- `encode`: the length and the type
+abbrev pub encodedOf : Encoded → Outcome (ℕ × ℕ)
+encodedOf (Refused n) = refused n
+encodedOf (Bytes n typ) = answer (n, typeNumber typ)
+
+abbrev pub codeInto : Outcome Coded → List ℕ → Outcome (ℕ × ℕ) × List ℕ
+codeInto o out = intoWith (λ c. c .bytes) (λ c. c .typ) o out
