@@ -120,7 +120,9 @@ module _ {d : List ℕ} (f : Plain d) where
 
     frame-read : readFrame 6 head (unpack (pack (y .all))) ≡ some d
     unfolding readFrame pick
-    frame-read = rw (header-is .count, y .unpacked, b .back (y .rest), y .read, addresses-is, header-is .ui, ← f .is)
+    frame-read =
+        rw (header-is .count, y .unpacked, b .back (y .rest), y .read, header-is .ui)
+        (ap (λ (a : List ℕ). some (a ++ (0x03 ∷ 0xF0 ∷ f .info))) addresses-is ∙ ap some (sym (f .is)))
 
     with-parts : FrameBack d
     with-parts =

@@ -10,7 +10,7 @@ use borrow.Author.Tests.{le-ltb}
 use Rattle.laws.specs.Bits.{odd, pack}
 use Rattle.laws.specs.Pick.{pick}
 use Rattle.laws.proofs.ByteLaws.{length-pack, unpack-whole}
-use Rattle.laws.proofs.Cases.{by-test}
+use Rattle.laws.proofs.Cases.{by-test, pick-false}
 use Rattle.bits.specs.Text7.{lastOr, text7Bits}
 use Rattle.bits.proofs.Text7Laws.{length-text7, text7-back}
 use Rattle.refusals.specs.Outcome.{Outcome, answer}
@@ -23,8 +23,8 @@ use Rattle.kiss.specs.Back.{Back}
 
 -- a message of a header and at most 4,999 bytes
 pub decode-at : (header : ℕ) (rest : List ℕ) (o : Outcome Decoded) → length rest ≤ 4999 → decodeMessage header rest ≡ o → decodeOf (header ∷ rest) ≡ o
-unfolding decodeOf decodeSome pick
-decode-at header rest o l e = rw (le-ltb 5000 (suc (length rest)) (omega arith)) e
+unfolding decodeOf decodeSome
+decode-at header rest o l e = pick-false _ _ (le-ltb _ (suc (length rest)) (omega arith)) ∙ e
 
 module _ (d : List ℕ) (l : length d ≤ 4999) where
   generic-coded : codeOf Generic d ≡ answer (record { bytes = genericOf d; typ = Text })
