@@ -1,5 +1,6 @@
 pub mod Examples
 pub mod FrameBack
 pub mod HeadBack
+pub mod PackLaws
 pub mod PlainLaws
 pub mod SizeLaws
