@@ -1,3 +1,4 @@
+pub mod CoderLaws
 pub mod Examples
 pub mod FrameBack
 pub mod HeadBack
