@@ -2,3 +2,4 @@
 pub mod address;
 pub mod classify;
 pub mod parse;
+pub mod record;
