@@ -1,7 +1,6 @@
 -- `ax25_token::names::numbered_of` meets its contract, a law for each row.
 -- Assumes nothing.
 use mathlib.Core.Path.{sym, _∙_}
-use Rattle.laws.specs.Text.{ascii}
 use Rattle.ax25_token.proofs.NameLaws.{range-least, count-apin, count-apww, count-apdr, count-none}
 use borrow.Author.Needs.{needs}
 use Rattle.ax25_token.proofs.names.numbered_of.Statement.{statement}
@@ -17,7 +16,7 @@ in-range-requires : tie.Need-in-range-requires
 in-range-requires c κs = search needs
 
 sub-t9 : tie.Need-sub-t9
-sub-t9 c = range-least (ascii "APIN") 20 36 _ _ (sym (c .before .in-range .ensures) ∙ c .if1 .taken)
+sub-t9 c = range-least _ _ _ _ _ (sym (c .before .in-range .ensures) ∙ c .if1 .taken)
 
 returns : tie.Need-returns
 returns c = count-apin _ _ (c .before .before .before .before .before .pre) (c .before .before .before .number-at .ensures) (sym (c .before .in-range .ensures) ∙ c .if1 .taken)
@@ -29,7 +28,7 @@ in-range-requires-2 : tie.Need-in-range-requires-2
 in-range-requires-2 c κs = search needs
 
 sub-t13 : tie.Need-sub-t13
-sub-t13 c = range-least (ascii "APWW") 11 19 _ _ (sym (c .before .in-range2 .ensures) ∙ c .if2 .taken)
+sub-t13 c = range-least _ _ _ _ _ (sym (c .before .in-range2 .ensures) ∙ c .if2 .taken)
 
 returns-2 : tie.Need-returns-2
 returns-2 c = count-apww _ _ (c .before .before .before .before .before .before .before .before .pre) (c .before .before .before .before .before .before .number-at .ensures) (sym (c .before .before .before .before .in-range .ensures) ∙ c .before .before .before .if1 .left) (sym (c .before .in-range2 .ensures) ∙ c .if2 .taken)
@@ -41,7 +40,7 @@ in-range-requires-3 : tie.Need-in-range-requires-3
 in-range-requires-3 c κs = search needs
 
 sub-t17 : tie.Need-sub-t17
-sub-t17 c = range-least (ascii "APDR") 16 48 _ _ (sym (c .before .in-range3 .ensures) ∙ c .if3 .taken)
+sub-t17 c = range-least _ _ _ _ _ (sym (c .before .in-range3 .ensures) ∙ c .if3 .taken)
 
 returns-3 : tie.Need-returns-3
 returns-3 c = count-apdr _ _ (c .before .before .before .before .before .before .before .before .before .before .before .pre) (c .before .before .before .before .before .before .before .before .before .number-at .ensures) (sym (c .before .before .before .before .before .before .before .in-range .ensures) ∙ c .before .before .before .before .before .before .if1 .left) (sym (c .before .before .before .before .in-range2 .ensures) ∙ c .before .before .before .if2 .left) (sym (c .before .in-range3 .ensures) ∙ c .if3 .taken)
