@@ -3,6 +3,7 @@ pub mod CallLaws
 mod Dictionary
 pub mod Examples
 mod HeightLaws
+pub mod PartLaws
 pub mod PlaceBack
 pub mod Sizes
 mod Steps

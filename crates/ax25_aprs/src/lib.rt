@@ -1,5 +1,6 @@
 // The bodies of APRS frames: text with the dictionary and altitudes.
 mod height;
 mod number;
+pub mod part;
 pub mod text;
 mod words;

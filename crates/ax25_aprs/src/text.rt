@@ -2,6 +2,7 @@
 use crate::height;
 use crate::height::Number;
 use crate::number;
+use crate::part::Part;
 use crate::words;
 use bits::read::Taken;
 ghost use mathlib.Core.Path.{_≡_};
@@ -11,19 +12,14 @@ ghost use lib.ListN.{length, take, drop};
 ghost use lib.Dec.{eqb, leb};
 ghost use Rattle.laws.specs.Bits.{valueOf, unpack};
 ghost use Rattle.laws.specs.Wrote.{Wrote};
+ghost use Rattle.ax25_aprs.specs.Coded.{orRefused};
 ghost use Rattle.ax25_aprs.specs.Text.{altitude, altitudeBits, frontBits, frontSize, textBits, altitudeText, codeText, codeSpan, readText};
-ghost use Rattle.ax25_aprs.specs.Put.{Stepped, Did};
+ghost use Rattle.ax25_aprs.specs.Put.{Stepped, Does};
 
 // What coding the front of a text gave: how many bytes it took, and the next position; or an altitude is no number.
 pub enum Step {
     Took(usize, usize),
     Stuck,
-}
-
-// What coding a text gave: the next position, or an altitude is no number.
-pub enum Put {
-    Next(usize),
-    Bad,
 }
 
 // A byte as a word.
@@ -74,20 +70,20 @@ fn front(s: &[u8], position: bool, out: &mut [u8], at: usize) -> Step
 }
 
 // A text from a position on; where an altitude is no number nothing is said of the output.
-pub fn text_encode(s: &[u8], position: bool, out: &mut [u8], at: usize) -> Put
-    requires { ⌜ (length (now s) < 2 ^ 56) × (at < 2 ^ 60) ⌝ }
-    ensures { λ r. ⌜ Did (textBits position (now (s .entry))) (unpack (now (out .entry))) at (unpack (now (out .exit))) r ⌝ }
+pub fn text_encode(s: &[u8], position: bool, out: &mut [u8], at: usize) -> Part
+    requires { ⌜ at + length (now s) * 7 < 2 ^ 61 ⌝ }
+    ensures { λ r. ⌜ Does (orRefused 5 (textBits position (now (s .entry)))) (unpack (now (out .entry))) at (unpack (now (out .exit))) r ⌝ }
 {
     let mut i = 0;
     let mut next = at;
     while i < s.len() {
         let Step::Took(size, place) = front(&s[i..], position, out, next) else {
-            return Put::Bad;
+            return Part::Refused(refusals::FORMAT);
         };
         i += size;
         next = place;
     }
-    Put::Next(next)
+    Part::Next(next)
 }
 
 // The n bits from a position on, as a number.

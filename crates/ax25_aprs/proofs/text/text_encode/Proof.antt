@@ -9,9 +9,10 @@ use Prim.Native.Nat.{_+_, _-_, _*_, _≤_}
 use lib.ListN.{length, drop, length-drop}
 use denote.Ref.{now}
 use Rattle.laws.specs.Bits.{unpack}
+use Rattle.ax25_aprs.specs.Coded.{orRefused}
 use Rattle.ax25_aprs.specs.Text.{textBits}
-use Rattle.ax25_aprs.specs.Put.{Did}
-use Rattle.ax25_aprs.specs.declared.text.Put.{Put}
+use Rattle.ax25_aprs.specs.Put.{Does}
+use Rattle.ax25_aprs.specs.declared.part.Part.{Part}
 use Rattle.ax25_aprs.proofs.Steps.{rest-of, Turn, turn, stop, all-done}
 use Rattle.ax25_aprs.proofs.text.text_encode.Statement.{statement}
 use Rattle.ax25_aprs.proofs.text.text_encode.Tie as tie
@@ -19,7 +20,7 @@ use Rattle.ax25_aprs.proofs.text.text_encode.Tie as tie
 abbrev Inv-loop : tie.InvT-loop
 Inv-loop s position out₀ at i₀ next₀ out i next =
     (i ≤ length s) × (length out ≡ length out₀) × (next + (length s - i) * 7 ≤ at + length s * 7)
-    × ((e : List Bool) (r : Put) → Did (textBits position (drop i s)) (unpack out) next e r → Did (textBits position s) (unpack out₀) at e r)
+    × ((e : List Bool) (r : Part) → Does (orRefused 5 (textBits position (drop i s))) (unpack out) next e r → Does (orRefused 5 (textBits position s)) (unpack out₀) at e r)
 
 abbrev μ-loop : tie.MeasureT-loop
 μ-loop s position out₀ at i₀ next₀ out i next = length s - i
