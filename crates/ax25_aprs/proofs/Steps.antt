@@ -1,17 +1,16 @@
 -- What the answers of the coder of a text say, and one step of it after another.
 -- Assumes nothing.
-use mathlib.Core.Path.{_≡_, refl, sym, ap}
+use mathlib.Core.Path.{_≡_, refl, ap}
 use mathlib.Core.Bool.{Bool}
-use mathlib.Core.List.{List, [], _∷_, _++_}
+use mathlib.Core.List.{List, [], _∷_}
 use mathlib.Core.Option.{Option, none, some}
 use Prim.Native.Nat.{ℕ, _+_, _-_, _*_, _≤_, _<_}
-use native.Mathlib.Nat.{add-zero}
 use native.Mathlib.Omega.{arith}
-use lib.ListN.{length, take, drop, length-append, length-drop}
-use lib.Seq.{take-all, drop-drop}
+use lib.ListN.{length, drop, length-drop}
+use lib.Seq.{drop-drop}
 use Rattle.laws.specs.Wrote.{Wrote}
-use Rattle.laws.proofs.WroteLaws.{wrote-none, wrote-then}
-use Rattle.ax25_aprs.specs.Text.{before, joined, frontBits, frontSize, textBits}
+use Rattle.laws.proofs.WroteLaws.{wrote-none}
+use Rattle.ax25_aprs.specs.Text.{joined, frontBits, frontSize, textBits}
 use Rattle.ax25_aprs.specs.Coded.{orRefused}
 use Rattle.ax25_aprs.specs.Put.{numberOf, Stepped, Does}
 use Rattle.ax25_aprs.specs.declared.height.Number.the-variants.{Is, Not}
@@ -21,10 +20,6 @@ use Rattle.ax25_aprs.specs.declared.part.Part.the-variants.{Next, Refuse
 use Rattle.ax25_aprs.proofs.PartLaws.{at-place, does, does-then, refused-joined}
 use Rattle.ax25_aprs.proofs.TextLaws.{text-nil, text-step, size-pos}
 use Rattle.ax25_aprs.proofs.Sizes.{size-le, front-size}
-
--- a part from a on is all that is behind a
-pub rest-of : (a : ℕ) (s : List ℕ) → take (length s - a) (drop a s) ≡ drop a s
-rest-of a s = take-all (length s - a) (drop a s) (omega (arith, length-drop a s))
 
 pub number-is : (o : Option ℕ) (n : ℕ) → numberOf o ≡ Is n → o ≡ some n
 unfolding numberOf

@@ -1,16 +1,23 @@
 // Positions behind their type byte: `latlon_encode` and `latlon_decode` of the source.
 use crate::field;
+use crate::number;
 use crate::part::Part;
 use crate::text;
+use bits::read::Got;
 ghost use mathlib.Core.Path.{_≡_};
-ghost use mathlib.Core.List.{_++_};
-ghost use Prim.Native.Nat.{_+_, _^_, _≤_, _<_};
-ghost use lib.ListN.{length, take, drop};
+ghost use mathlib.Core.Bool.{false};
+ghost use mathlib.Core.List.{[], _∷_, _++_};
+ghost use Prim.Native.Nat.{_+_, _*_, _/_, _^_, _≤_, _<_};
+ghost use lib.ListN.{length, getD, take, drop};
 ghost use Rattle.laws.specs.Bits.{unpack};
+ghost use Rattle.laws.specs.Digits.{digits};
 ghost use Rattle.laws.specs.Wrote.{Wrote};
 ghost use Rattle.bits.specs.Val.{valOf};
-ghost use Rattle.ax25_aprs.specs.LatLon.{sideBits, tableCode, tableBits, latBits, lonBits, latlonBits};
-ghost use Rattle.ax25_aprs.specs.Put.{Does};
+ghost use Rattle.ax25_aprs.specs.LatLon.{sideBits, tableCode, tableBits, latBits, lonBits, latlonBits, tables, dotted, side, tableEnd, tableText, latText, lonText, readLatlon};
+ghost use Rattle.ax25_aprs.specs.Put.{Does, Reads};
+ghost use Rattle.ax25_aprs.specs.Text.{padded};
+
+const SYMBOL_TABLES: [u8; 8] = *b"/\\IRVTDS";
 
 // The six digits of DDMM.mm as a number.
 fn lat(s: &[u8]) -> u64
@@ -105,4 +112,105 @@ pub fn latlon_encode(s: &[u8], out: &mut [u8], at: usize) -> Part
     let p = put_lat(s, out, at);
     let q = put_lon(s, out, p);
     text::text_encode(&s[19..], true, out, q)
+}
+
+// k digits, a dot, and the m low digits. The next place.
+fn put_around(out: &mut [u8], to: usize, k: usize, m: usize, v: u64) -> usize
+    requires { ⌜ (k ≤ 8) × (m < 8) × (to < 2 ^ 60) ⌝ }
+    ensures { λ r. ⌜ Wrote (now (out .entry)) to (digits k (v / 10 ^ m) ++ 46 ∷ digits m v) (now (out .exit)) r ⌝ }
+{
+    let p = number::put_digits(out, to, k, v / number::ten(m));
+    let q = bits::write::byte(out, p, b'.');
+    number::put_digits(out, q, m, v)
+}
+
+// v in n digits, or in one more, with a dot behind the first k. The next place.
+fn put_dotted(out: &mut [u8], to: usize, k: usize, n: usize, v: u64) -> usize
+    requires { ⌜ (k ≤ n) × (n < 8) × (0 < k) × (to < 2 ^ 60) ⌝ }
+    ensures { λ r. ⌜ Wrote (now (out .entry)) to (dotted k (padded n v)) (now (out .exit)) r ⌝ }
+{
+    if v < number::ten(n) {
+        return put_around(out, to, k, n - k, v);
+    }
+    put_around(out, to, k, n + 1 - k, v)
+}
+
+// One of two letters, by the bit at a position. The next place.
+fn put_letter(s: &[u8], at: usize, y: u8, n: u8, out: &mut [u8], to: usize) -> usize
+    requires { ⌜ (at < length (now s) * 8) × (length (now s) < 2 ^ 55) × (to < 2 ^ 61) ⌝ }
+    ensures { λ r. ⌜ Wrote (now (out .entry)) to (side y n (getD (unpack (now (s .entry))) at false) ∷ []) (now (out .exit)) r ⌝ }
+{
+    if field::bit(s, at) {
+        return bits::write::byte(out, to, y);
+    }
+    bits::write::byte(out, to, n)
+}
+
+// Where the longitude starts, counted from the position's first bit.
+fn table_end(s: &[u8], at: usize) -> usize
+    requires { ⌜ (at + 54 ≤ length (now s) * 8) × (length (now s) < 2 ^ 55) ⌝ }
+    ensures { λ r. ⌜ r ≡ tableEnd (drop at (unpack (now (s .entry)))) ⌝ }
+{
+    if field::bit(s, at + 21) {
+        return 25;
+    }
+    29
+}
+
+// A symbol table by its place.
+fn table_byte(k: u64) -> u8
+    requires { ⌜ k < 8 ⌝ }
+    ensures { λ r. ⌜ r ≡ getD tables k 0 ⌝ }
+{
+    let i = k as usize;
+    SYMBOL_TABLES[i]
+}
+
+// The symbol table of a position.
+fn table_at(s: &[u8], at: usize) -> u8
+    requires { ⌜ (at + 54 ≤ length (now s) * 8) × (length (now s) < 2 ^ 55) ⌝ }
+    ensures { λ r. ⌜ r ≡ tableText (drop at (unpack (now (s .entry)))) ⌝ }
+{
+    if field::bit(s, at + 21) {
+        return table_byte(field::value(s, at + 22, 3));
+    }
+    field::narrow(field::value(s, at + 22, 7))
+}
+
+// The text of latitude, N or S, table. The next place.
+fn read_lat(s: &[u8], at: usize, out: &mut [u8], to: usize) -> usize
+    requires { ⌜ (at + 54 ≤ length (now s) * 8) × (length (now s) < 2 ^ 55) × (to < 2 ^ 59) ⌝ }
+    ensures { λ r. ⌜ Wrote (now (out .entry)) to (latText (drop at (unpack (now (s .entry))))) (now (out .exit)) r ⌝ }
+{
+    let p = put_dotted(out, to, 4, 6, field::value(s, at, 20));
+    let q = put_letter(s, at + 20, b'N', b'S', out, p);
+    bits::write::byte(out, q, table_at(s, at))
+}
+
+// The text of longitude, W or E, symbol, which start e bits behind the position's first bit. The next place.
+fn read_lon(s: &[u8], at: usize, e: usize, out: &mut [u8], to: usize) -> usize
+    requires { ⌜ (e ≡ tableEnd (drop at (unpack (now s)))) × (at + (e + 29) ≤ length (now s) * 8) × (length (now s) < 2 ^ 55) × (to < 2 ^ 59) ⌝ }
+    ensures { λ r. ⌜ Wrote (now (out .entry)) to (lonText (drop at (unpack (now (s .entry))))) (now (out .exit)) r ⌝ }
+{
+    let p = put_dotted(out, to, 5, 7, field::value(s, at + e, 21));
+    let q = put_letter(s, at + (e + 21), b'W', b'E', out, p);
+    bits::write::byte(out, q, field::narrow(field::value(s, at + (e + 22), 7)))
+}
+
+// The position that stands from a bit on, written from a place of the output on; where there is none, nothing is said of the output.
+pub fn latlon_decode(s: &[u8], at: usize, out: &mut [u8], to: usize) -> Got
+    requires { ⌜ (length (now s) < 2 ^ 55) × (at < 2 ^ 60) × (to < 2 ^ 55) ⌝ }
+    ensures { λ r. ⌜ Reads (readLatlon (drop at (unpack (now (s .entry))))) (now (out .entry)) to (now (out .exit)) r ⌝ }
+{
+    let left = bits::read::remaining(s, at);
+    if left < 54 {
+        return Got::Nothing;
+    }
+    let e = table_end(s, at);
+    if left < e + 29 {
+        return Got::Nothing;
+    }
+    let p = read_lat(s, at, out, to);
+    let q = read_lon(s, at, e, out, p);
+    Got::Next(text::text_decode(s, at + (e + 29), true, out, q))
 }
