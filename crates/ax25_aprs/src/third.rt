@@ -1,6 +1,5 @@
 // The fields of a third-party body: `collect` of the source.
 ghost use mathlib.Core.Path.{_≡_};
-ghost use Prim.Native.Nat.{_+_};
 ghost use Rattle.ax25_aprs.specs.Put.{fieldIn};
 ghost use Rattle.ax25_aprs.specs.Third.{collectOf};
 
@@ -16,13 +15,13 @@ pub enum Collected {
     Short,
 }
 
-// The field at the front of d, up to a stop byte among its first span + 1 bytes, or else all of these.
-pub fn collect(d: &[u8], stop: u8, span: usize) -> Collected
-    ensures { λ r. ⌜ fieldIn (now (d .entry)) r ≡ collectOf stop (span + 1) (now (d .entry)) ⌝ }
+// The field at the front of d, up to a stop byte among its first k bytes, or else all of these; k is the source's span + 1.
+pub fn collect(d: &[u8], stop: u8, k: usize) -> Collected
+    ensures { λ r. ⌜ fieldIn (now (d .entry)) r ≡ collectOf stop k (now (d .entry)) ⌝ }
 {
     let mut j = 0;
     let found = loop {
-        if span < j {
+        if k <= j {
             break Span { end: j, next: 0 };
         }
         if d.len() <= j {

@@ -2,7 +2,7 @@
 -- Assumes nothing.
 use native.Mathlib.Omega.{arith}
 use mathlib.Core.Path.{sym}
-use Prim.Native.Nat.{_+_, _-_, _≤_}
+use Prim.Native.Nat.{_-_, _≤_}
 use lib.ListN.{length}
 use denote.Ref.{now}
 use Rattle.ax25_aprs.proofs.FieldLaws.{Free, free-none, free-more, span-ended, span-full, collect-short}
@@ -10,10 +10,10 @@ use Rattle.ax25_aprs.proofs.third.collect.Statement.{statement}
 use Rattle.ax25_aprs.proofs.third.collect.Tie as tie
 
 abbrev Inv-loop : tie.InvT-loop
-Inv-loop d stop span j₀ j = (j ≤ span + 1) × (j ≤ length d) × Free stop j d
+Inv-loop d stop k j₀ j = (j ≤ k) × (j ≤ length d) × Free stop j d
 
 abbrev μ-loop : tie.MeasureT-loop
-μ-loop d stop span j₀ j = length d - j
+μ-loop d stop k j₀ j = length d - j
 
 loop-holds : tie.Need-loop-holds Inv-loop μ-loop
 loop-holds c = (omega arith, omega arith, free-none (c .args .stop) (now (c .args .d)))
@@ -22,7 +22,7 @@ returns : tie.Need-returns Inv-loop μ-loop
 returns c =
     let at-loop = c .before .before in
     let a = at-loop .before .args in
-    sym (collect-short (a .stop) (a .span + 1) (now (a .d)) (omega arith) (λ i h. at-loop .loop .inv .2 i (omega arith)))
+    sym (collect-short (a .stop) (a .k) (now (a .d)) (omega arith) (λ i h. at-loop .loop .inv .2 i (omega arith)))
 
 shared-slice-read-if3 : tie.Need-shared-slice-read-if3 Inv-loop μ-loop
 shared-slice-read-if3 c = omega arith
@@ -46,13 +46,13 @@ returns-2 : tie.Need-returns-2 Inv-loop μ-loop
 returns-2 c =
     let at-loop = c .before in
     let a = at-loop .before .args in
-    span-full (a .stop) (a .span + 1) (now (a .d)) (at-loop .loop .j) (omega arith) (omega arith) (at-loop .loop .inv .2)
+    span-full (a .stop) (a .k) (now (a .d)) (at-loop .loop .j) (omega arith) (omega arith) (at-loop .loop .inv .2)
 
 returns-3 : tie.Need-returns-3 Inv-loop μ-loop
 returns-3 c =
     let at-loop = c .before .before .before .before in
     let a = at-loop .before .args in
-    span-ended (a .stop) (a .span + 1) (now (a .d)) (at-loop .loop .j) (omega arith) (omega arith) (at-loop .loop .inv .2) (c .if3 .taken)
+    span-ended (a .stop) (a .k) (now (a .d)) (at-loop .loop .j) (omega arith) (omega arith) (at-loop .loop .inv .2) (c .if3 .taken)
 
 pub collect-spec : {M : Type 1} → statement M
 collect-spec =
