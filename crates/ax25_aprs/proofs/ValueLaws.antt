@@ -11,10 +11,15 @@ use lib.Seq.{take-all, getD-drop}
 use lib.Dec.{eqb}
 use Rattle.laws.specs.Bits.{num, valueOf, unpack}
 use Rattle.laws.proofs.BitLaws.{value-take-suc}
+use Rattle.laws.proofs.ByteLaws.{length-unpack}
 use Rattle.laws.proofs.Cases.{by-le}
 use Rattle.bits.specs.Read.{takeBits, taken}
 use Rattle.bits.specs.declared.read.Taken.the-variants.{Bits, Short}
 use Rattle.bits.proofs.ReadLaws.{taken-bits}
+
+-- how many bits there are from a position on
+pub bits-left : (s : List ℕ) (at : ℕ) → length (drop at (unpack s)) ≡ length s * 8 - at
+bits-left s at = omega (arith, length-drop at (unpack s), length-unpack s)
 
 -- as many as there are
 pub take-min : (k : ℕ) (l : List Bool) → take (min k (length l)) l ≡ take k l

@@ -7,14 +7,14 @@ use denote.Ref.{now}
 use Rattle.laws.proofs.WroteLaws.{wrote-then}
 use native.Mathlib.Nat.{add-zero}
 use Prim.Native.Nat.{_+_, _≤_, _<_}
-use lib.ListN.{length, drop, length-drop}
+use lib.ListN.{length, drop}
 use lib.Seq.{drop-drop}
 use Rattle.laws.specs.Bits.{unpack}
-use Rattle.laws.proofs.ByteLaws.{length-unpack}
 use Rattle.ax25_aprs.proofs.TextLaws.{length-padded}
 use Rattle.ax25_aprs.specs.LatLon.{readLatlon}
 use Rattle.ax25_aprs.proofs.PlaceLaws.{field-at, timestamped-none, timestamped-some}
 use Rattle.ax25_aprs.proofs.PartLaws.{reads-then}
+use Rattle.ax25_aprs.proofs.ValueLaws.{bits-left}
 use Rattle.ax25_aprs.proofs.body.timestamped_decode.Statement.{statement}
 use Rattle.ax25_aprs.proofs.body.timestamped_decode.Tie as tie
 
@@ -24,12 +24,8 @@ remaining-requires c κs = search needs
 returns : tie.Need-returns
 returns c =
     let a = c .before .before .before .before .args in
-    let u = unpack (now (a .s)) in
-    let b = drop (a .at) u in
-    let long = length-drop (a .at) u in
-    let all = length-unpack (now (a .s)) in
-    let left = c .before .remaining .ensures in
-    let few : length b < 20 = omega (arith, left) in
+    let b = drop (a .at) (unpack (now (a .s))) in
+    let few : length b < 20 = omega (arith, bits-left (now (a .s)) (a .at), c .before .remaining .ensures) in
     rw (timestamped-none b few) refl
 
 byte-requires : tie.Need-byte-requires
@@ -60,10 +56,8 @@ returns-2 c =
     let a = c .before .before .before .before .before .before .before .before .before .before .before .before .before .before .before .before .before .before .before .before .before .args in
     let u = unpack (now (a .s)) in
     let b = drop (a .at) u in
-    let long = length-drop (a .at) u in
-    let all = length-unpack (now (a .s)) in
     let left = c .before .before .before .before .before .before .before .before .before .before .before .before .before .before .before .before .before .before .remaining .ensures in
-    let many : 20 ≤ length b = omega (arith, left, c .before .before .before .before .before .before .before .before .before .before .before .before .before .before .before .before .before .if1 .left) in
+    let many : 20 ≤ length b = omega (arith, bits-left (now (a .s)) (a .at), left, c .before .before .before .before .before .before .before .before .before .before .before .before .before .before .before .before .before .if1 .left) in
     rw (timestamped-some b many, field-at (a .at) 0 20 u, add-zero (a .at), ← c .before .before .before .before .before .before .before .before .before .before .before .value .ensures, drop-drop 20 (a .at) u)
     (reads-then (wrote-then (c .before .before .before .before .before .before .before .before .before .before .before .before .before .before .before .byte .ensures) (wrote-then (c .before .before .before .before .before .before .before .before .before .before .put-padded .ensures) (c .before .before .before .before .before .before .byte2 .ensures))) (readLatlon (drop (a .at + 20) u)) _ _ (c .before .before .latlon-decode .ensures))
 
