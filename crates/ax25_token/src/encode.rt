@@ -174,7 +174,7 @@ fn put_unnamed(c: &[u8], l: usize, out: &mut [u8], at: usize) -> Put
 }
 
 // The same bytes.
-fn same(c: &[u8], n: &[u8]) -> bool
+pub fn same(c: &[u8], n: &[u8]) -> bool
     ensures { λ r. ⌜ r ≡ same (now (c .entry)) (now (n .entry)) ⌝ }
 {
     if c.len() != n.len() {
