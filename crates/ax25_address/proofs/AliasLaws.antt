@@ -106,7 +106,7 @@ room-next l n size h k =
 
 -- ---- the search
 
-fields-count : (l n : ℕ) (d : List ℕ) → length (fieldsOf l n d) ≡ n
+pub fields-count : (l n : ℕ) (d : List ℕ) → length (fieldsOf l n d) ≡ n
 unfolding fieldsOf
 fields-count l zero d = refl
 fields-count l (suc n) d = ap suc (fields-count l n (drop (l + 1) d))
@@ -120,7 +120,7 @@ module _ (l n : ℕ) (d : List ℕ) where
   abbrev pub digis : List (List ℕ)
   digis = map (addrCall l) (fieldsOf l n d)
 
-  digis-count : length digis ≡ n
+  pub digis-count : length digis ≡ n
   digis-count = length-map (fieldsOf l n d) (addrCall l) ∙ fields-count l n d
 
   pub of-none : n ≡ 0 → 0 ≡ aliasOf digis
