@@ -1,4 +1,5 @@
 pub mod AddressLaws
+pub mod AliasLaws
 pub mod ClassifyLaws
 pub mod DigiLaws
 pub mod LetterLaws

@@ -3,7 +3,7 @@
 use mathlib.Core.Path.{_≡_, refl, sym, ap, ap₂, _∙_}
 use mathlib.Core.List.{List, [], _∷_, map}
 use mathlib.Core.Option.{Option, none, some, Option·none-ne-some, Option·some-injective}
-use Prim.Native.Nat.{ℕ, zero, suc, _+_, _*_}
+use Prim.Native.Nat.{ℕ, zero, suc, _+_, _*_, _≤_}
 use native.Mathlib.Nat.{add-zero, add-mul}
 use native.Mathlib.Omega.{arith}
 use lib.ListN.{length, take, drop, getD, length-map}
@@ -17,7 +17,7 @@ use Rattle.ax25_address.specs.Digis.{digisOf}
 use Rattle.ax25_address.specs.Parse.{splitOff, Parsed, digiFields, fieldsOf, parseOf, countOf}
 use Rattle.ax25_address.specs.declared.parse.Digis.{Digis}
 use Rattle.ax25_address.specs.declared.parse.Digis.the-variants.{Found, Short}
-use Rattle.ax25_address.proofs.SizeLaws.{split-is}
+use Rattle.ax25_address.proofs.SizeLaws.{split-is, parse-size}
 
 -- ---- an address field is read no further than it goes
 
@@ -94,19 +94,22 @@ parse-places l d r e =
 
 -- ---- what the answer says
 
--- a frame with n digipeaters
+-- a frame with n digipeaters: its parts, where they stand, and its length
 pub record Has (l : ℕ) (d : List ℕ) (n : ℕ) : Type 0 where
   pub parts : Parsed
   pub parsed : parseOf l d ≡ some parts
   pub count : length (parts .digis) ≡ n
   pub places : Places l d parts n
+  pub few : n ≤ 8
+  pub total : length d ≡ (n + 2) * (l + 1) + 2 + length (parts .info)
 
 has-by : (l : ℕ) (d : List ℕ) (n : ℕ) (o : Option Parsed) → parseOf l d ≡ o → some n ≡ countOf o → Has l d n
 unfolding countOf
 has-by l d n none e h = absurd (Option·none-ne-some n (sym h))
 has-by l d n (some p) e h =
     let m : length (p .digis) ≡ n = sym (Option·some-injective n (length (p .digis)) h) in
-    record { parts = p; parsed = e; count = m; places = rw m at (parse-places l d p e) }
+    let sized = parse-size l d p e in
+    record { parts = p; parsed = e; count = m; places = rw m at (parse-places l d p e); few = rw m at (sized .few); total = rw m at (sized .total) }
 
 short-by : (o : Option Parsed) → none ≡ countOf o → o ≡ none
 unfolding countOf
