@@ -7,8 +7,8 @@ use lib.ListN.{length}
 use Rattle.ax25_address.specs.Kind.{typeNumber}
 use Rattle.ax25_address.specs.Parse.{Parsed, isAp, typeOf, aliasOf}
 use Rattle.ax25_address.specs.declared.record.Record.{Record}
-use Rattle.ax25_address.specs.declared.record.Parse.{Parse}
-use Rattle.ax25_address.specs.declared.record.Parse.the-variants.{Found, Short}
+use Rattle.ax25_address.specs.declared.record.Parsed as found
+use Rattle.ax25_address.specs.declared.record.Parsed.the-variants.{Found, Short}
 
 -- how many digipeaters, whether the destination starts with AP, control, PID, the alias's number, and the type's
 pub record Seen : Type 0 where
@@ -30,6 +30,6 @@ seenOf command (some r) = some (seen command r)
 abbrev pub recordOf : Record → Seen
 recordOf r = record { digis = r .digis; ap = r .ap; ctrl = r .ctrl; pid = r .pid; alias = r .alias; typ = typeNumber (r .«aprs_type») }
 
-abbrev pub foundOf : Parse → Option Seen
+abbrev pub foundOf : found.Parsed → Option Seen
 foundOf (Found r) = some (recordOf r)
 foundOf Short = none
