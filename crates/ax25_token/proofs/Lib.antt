@@ -5,6 +5,7 @@ pub mod CleanLaws
 pub mod Examples
 pub mod Hyphen
 pub mod LetterWays
+pub mod NameLaws
 pub mod PutLaws
 pub mod ReaderWays
 pub mod Sizes

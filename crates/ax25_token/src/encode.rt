@@ -1,16 +1,22 @@
 // The bits of a call: `token_encode` of the source.
 ghost use mathlib.Core.Path.{_≡_};
+ghost use mathlib.Core.Bool.{true};
 ghost use mathlib.Core.List.{[], _∷_, map};
 ghost use Prim.Native.Nat.{_+_, _^_, _≤_, _<_};
 ghost use lib.ListN.{length};
 ghost use Rattle.laws.specs.Bits.{unpack};
-ghost use Rattle.laws.specs.Pick.{pick};
 ghost use Rattle.laws.specs.Text.{same, isOneOf, starts};
 ghost use Rattle.laws.specs.Wrote.{Wrote};
 ghost use Rattle.bits.specs.Val.{valOf};
-ghost use Rattle.ax25_token.specs.Put.{codeView, casedOf, Puts};
-ghost use Rattle.ax25_token.specs.Tables.{alphaOf};
-ghost use Rattle.ax25_token.specs.Token.{baseOf, behind, numberAt, spell, ending, plainAp, apBits, spelledBits};
+ghost use Rattle.ax25_token.specs.Put.{codeView, casedOf, pairedBits, unnamedBits, unpairedBits, Puts};
+ghost use Rattle.ax25_token.specs.Tables.{alphaOf, numberedRows};
+ghost use Rattle.ax25_token.specs.Token.{baseOf, behind, numberAt, numberedBits, spell, ending, plainAp, apBits, spelledBits, orElse, tokenBits};
+use crate::names::Counted;
+use crate::names::Row;
+use crate::names::fixed_of;
+use crate::names::numbered_of;
+use crate::names::pair_of;
+use crate::names::two_at;
 use bits::write::push;
 
 // The next position, or a bad call.
@@ -162,19 +168,8 @@ fn plain_ap(c: &[u8]) -> bool
     false
 }
 
-// A call that has no name: the AP form, or spelled.
-fn put_unnamed(c: &[u8], l: usize, out: &mut [u8], at: usize) -> Put
-    requires { ⌜ (length (now c) ≤ 16) × (at < 2 ^ 60) ⌝ }
-    ensures { λ r. ⌜ Puts (unpack (now (out .entry))) at (pick (plainAp (now (c .entry))) (apBits l (now (c .entry))) (spelledBits l (now (c .entry)))) (unpack (now (out .exit))) r ⌝ }
-{
-    if plain_ap(c) {
-        return put_ap(c, l, out, at);
-    }
-    put_spelled(c, l, out, at)
-}
-
 // The same bytes.
-fn same(c: &[u8], n: &[u8]) -> bool
+pub(crate) fn same(c: &[u8], n: &[u8]) -> bool
     ensures { λ r. ⌜ r ≡ same (now (c .entry)) (now (n .entry)) ⌝ }
 {
     if c.len() != n.len() {
@@ -184,7 +179,7 @@ fn same(c: &[u8], n: &[u8]) -> bool
 }
 
 // One of four texts.
-fn one_of(c: &[u8], v: &[u8], w: &[u8], x: &[u8], y: &[u8]) -> bool
+pub(crate) fn one_of(c: &[u8], v: &[u8], w: &[u8], x: &[u8], y: &[u8]) -> bool
     ensures { λ r. ⌜ r ≡ isOneOf (now (c .entry)) (now (v .entry) ∷ now (w .entry) ∷ now (x .entry) ∷ now (y .entry) ∷ []) ⌝ }
 {
     if same(c, v) {
@@ -200,7 +195,7 @@ fn one_of(c: &[u8], v: &[u8], w: &[u8], x: &[u8], y: &[u8]) -> bool
 }
 
 // The number in n bytes from a place on, as far as there are any.
-fn number_at(c: &[u8], a: usize, n: usize) -> u64
+pub(crate) fn number_at(c: &[u8], a: usize, n: usize) -> u64
     requires { ⌜ (a ≤ 16) × (n ≤ 16) ⌝ }
     ensures { λ r. ⌜ r ≡ numberAt (now (c .entry)) a n ⌝ }
 {
@@ -211,4 +206,59 @@ fn number_at(c: &[u8], a: usize, n: usize) -> u64
         return bits::vb_val(&c[a..]);
     }
     bits::vb_val(&c[a..a + n])
+}
+
+// A call with a row of PAIRS: the index, the digit as one bit, and w bits of the number. The name has k bytes.
+fn put_pair(c: &[u8], i: u64, k: usize, w: usize, out: &mut [u8], at: usize) -> usize
+    requires { ⌜ (k ≤ 4) × (w ≤ 2) × (at < 2 ^ 60) ⌝ }
+    ensures { λ r. ⌜ Wrote (unpack (now (out .entry))) at (pairedBits i k w (now (c .entry))) (unpack (now (out .exit))) r ⌝ }
+{
+    let p = push(out, at, i, 6);
+    let q = push(out, p, two_at(c, k), 1);
+    push(out, q, number_at(c, k + 2, 1), w)
+}
+
+// A call that starts with AP and has no hyphen: a row of NUMBERED, or the AP form.
+fn put_plain(c: &[u8], l: usize, out: &mut [u8], at: usize) -> Put
+    requires { ⌜ (plainAp (now c) ≡ true) × (length (now c) ≤ 16) × (at < 2 ^ 60) ⌝ }
+    ensures { λ r. ⌜ Puts (unpack (now (out .entry))) at (orElse (numberedBits numberedRows (now (c .entry))) (apBits l (now (c .entry)))) (unpack (now (out .exit))) r ⌝ }
+{
+    let Counted::Count(i, v, w) = numbered_of(c) else {
+        return put_ap(c, l, out, at);
+    };
+    let p = push(out, at, i, 6);
+    Put::Next(push(out, p, v, w))
+}
+
+// A call without a whole name: a row of NUMBERED, the AP form, or spelled.
+fn put_unnamed(c: &[u8], l: usize, out: &mut [u8], at: usize) -> Put
+    requires { ⌜ (length (now c) ≤ 16) × (at < 2 ^ 60) ⌝ }
+    ensures { λ r. ⌜ Puts (unpack (now (out .entry))) at (unnamedBits l (now (c .entry))) (unpack (now (out .exit))) r ⌝ }
+{
+    if plain_ap(c) {
+        return put_plain(c, l, out, at);
+    }
+    put_spelled(c, l, out, at)
+}
+
+// A call that no row of PAIRS takes.
+fn put_unpaired(c: &[u8], l: usize, out: &mut [u8], at: usize) -> Put
+    requires { ⌜ (length (now c) ≤ 16) × (at < 2 ^ 60) ⌝ }
+    ensures { λ r. ⌜ Puts (unpack (now (out .entry))) at (unpairedBits l (now (c .entry))) (unpack (now (out .exit))) r ⌝ }
+{
+    let Code::Is(i) = fixed_of(c) else {
+        return put_unnamed(c, l, out, at);
+    };
+    Put::Next(push(out, at, i, 6))
+}
+
+// The bits of a call at a position, for calls of l letters. What lies past the end of out is not written.
+pub fn token_encode(c: &[u8], l: usize, out: &mut [u8], at: usize) -> Put
+    requires { ⌜ (length (now c) ≤ 16) × (at < 2 ^ 60) ⌝ }
+    ensures { λ r. ⌜ Puts (unpack (now (out .entry))) at (tokenBits l (now (c .entry))) (unpack (now (out .exit))) r ⌝ }
+{
+    let Row::Paired(i, k, w) = pair_of(c) else {
+        return put_unpaired(c, l, out, at);
+    };
+    Put::Next(put_pair(c, i, k, w, out, at))
 }

@@ -1,5 +1,6 @@
 // Call tokens: a call of at most 16 bytes, read from bits and written to bits.
 pub mod encode;
+pub mod names;
 
 ghost use mathlib.Core.Path.{_≡_};
 ghost use Prim.Native.Nat.{_+_, _-_, _^_, _≤_, _<_, ℕ};

@@ -1,9 +1,8 @@
 -- `ax25_token::encode::put_unnamed` meets its contract.
 -- Assumes nothing.
 use mathlib.Core.Path.{sym, _∙_}
-use native.Mathlib.Omega.{arith}
-use Rattle.laws.specs.Pick.{pick}
-use Rattle.ax25_token.proofs.PutLaws.{plain-size}
+use denote.Ref.{now}
+use Rattle.ax25_token.proofs.NameLaws.{unnamed-plain, unnamed-other}
 use borrow.Author.Needs.{needs}
 use Rattle.ax25_token.proofs.encode.put_unnamed.Statement.{statement}
 use Rattle.ax25_token.proofs.encode.put_unnamed.Tie as tie
@@ -11,18 +10,18 @@ use Rattle.ax25_token.proofs.encode.put_unnamed.Tie as tie
 plain-ap-requires : tie.Need-plain-ap-requires
 plain-ap-requires c κs = search needs
 
-put-ap-requires : tie.Need-put-ap-requires
-put-ap-requires c κs =
-    let size = plain-size _ (sym (c .before .before .plain-ap .ensures) ∙ c .before .if1 .taken) in
+put-plain-requires : tie.Need-put-plain-requires
+put-plain-requires c κs =
     let pre = c .before .before .before .before .before .pre in
-    (size, pre .0, pre .1)
+    (sym (c .before .before .plain-ap .ensures) ∙ c .before .if1 .taken, pre .0, pre .1)
 
 same-length : tie.Need-same-length
 same-length c = search needs
 
 returns : tie.Need-returns
-unfolding pick
-returns c = rw (sym (c .before .before .before .before .before .plain-ap .ensures) ∙ c .before .before .before .before .if1 .taken) (c .before .before .put-ap .ensures)
+returns c =
+    let a = c .before .before .before .before .before .before .before .before .args in
+    rw (unnamed-plain (a .l) (now (a .c)) (sym (c .before .before .before .before .before .plain-ap .ensures) ∙ c .before .before .before .before .if1 .taken)) (c .before .before .put-plain .ensures)
 
 put-spelled-requires : tie.Need-put-spelled-requires
 put-spelled-requires c κs = search needs
@@ -31,15 +30,16 @@ same-length-2 : tie.Need-same-length-2
 same-length-2 c = search needs
 
 returns-2 : tie.Need-returns-2
-unfolding pick
-returns-2 c = rw (sym (c .before .before .before .before .before .plain-ap .ensures) ∙ c .before .before .before .before .if1 .left) (c .before .before .put-spelled .ensures)
+returns-2 c =
+    let a = c .before .before .before .before .before .before .before .before .args in
+    rw (unnamed-other (a .l) (now (a .c)) (sym (c .before .before .before .before .before .plain-ap .ensures) ∙ c .before .before .before .before .if1 .left)) (c .before .before .put-spelled .ensures)
 
 pub put-unnamed-spec : {M : Type 1} → statement M
 put-unnamed-spec =
     tie.close
     (tie.spec
     plain-ap-requires
-    put-ap-requires
+    put-plain-requires
     same-length
     returns
     put-spelled-requires
