@@ -8,12 +8,12 @@ use Prim.Native.Nat.{ℕ, zero, suc, _+_, _-_, _*_, _/_, _%_, _≤_, _<_}
 use native.Mathlib.Nat.{not-suc-le-zero, le-of-suc-le-suc}
 use native.Mathlib.Omega.{arith}
 use lib.Bits.{bitOr}
-use lib.ListN.{length, take, replicate, length-append, length-replicate, length-map, replicate-append-replicate}
+use lib.ListN.{length, getD, take, replicate, length-append, length-replicate, length-map, replicate-append-replicate}
 use lib.Seq.{take-at, getD-at, length-take-le, take-append-add}
 use lib.Dec.{eqb}
 use borrow.Author.Tests.{eqb-true}
 use Rattle.laws.specs.Pick.{pick}
-use Rattle.laws.specs.Text.{ascii, between, same, starts, filled}
+use Rattle.laws.specs.Text.{ascii, between, same, starts, filled, trim}
 use Rattle.laws.proofs.Cases.{by-test}
 use Rattle.laws.proofs.TextLaws.{below, at-each}
 use Rattle.laws.proofs.TrimLaws.{between-above, Solid, trim-filled}
@@ -92,8 +92,15 @@ pub field-call : (l : ℕ) (b : List ℕ) (s e : ℕ) → cleanLetters b ≡ tru
     → addrCall l (addressOf l b e) ≡ callText b s
 unfolding addrCall addressOf callText
 field-call l b s e c k q =
-    let size : length (map double (cutTo l b)) ≡ l = length-map (cutTo l b) double ∙ length-cut l b in
-    rw (take-at (map double (cutTo l b)) (e ∷ []) l size, getD-at (map double (cutTo l b)) e [] 0 l size, q, cut-filled l b k, halves-filled l b c, trim-filled white white-blank l b (letters-solid b c))
+    let field = map double (cutTo l b) in
+    let size : length field ≡ l = length-map (cutTo l b) double ∙ length-cut l b in
+    let letters : trim white (map half (take l (field ++ (e ∷ [])))) ≡ b =
+    ap (λ (t : List ℕ). trim white (map half t)) (take-at field (e ∷ []) l size)
+    ∙ ap (λ (t : List ℕ). trim white (map half (map double t))) (cut-filled l b k)
+    ∙ ap (trim white) (halves-filled l b c)
+    ∙ trim-filled white white-blank l b (letters-solid b c) in
+    let ssid : getD (field ++ (e ∷ [])) l 0 / 2 % 16 ≡ s = ap (λ (x : ℕ). x / 2 % 16) (getD-at field e [] 0 l size) ∙ q in
+    ap₂ (λ (t : List ℕ) (n : ℕ). t ++ suffix n) letters ssid
 
 -- ---- from the call to the field
 

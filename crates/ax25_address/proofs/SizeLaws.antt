@@ -1,6 +1,6 @@
 -- The sizes of what a frame is parsed into.
 -- Assumes nothing.
-use mathlib.Core.Path.{_≡_, sym, _∙_}
+use mathlib.Core.Path.{_≡_, refl, sym, ap, _∙_}
 use mathlib.Core.List.{List, [], _∷_, map, map-append}
 use mathlib.Core.Option.{some, Option·none-ne-some, Option·some-injective}
 use Prim.Native.Nat.{ℕ, zero, suc, _+_, _*_, _/_, _%_, _≤_}
@@ -42,19 +42,24 @@ module _ (l : ℕ) (a : List ℕ) where
 
 -- ---- the lengths of the parts
 
--- what is split off has its length
-split-size : {A : Type 0} (n : ℕ) (d : List A) (p : List A × List A) → splitOff n d ≡ some p → (length (p .0) ≡ n) × (length d ≡ n + length (p .1))
+-- what is split off
+pub split-is : {A : Type 0} (n : ℕ) (d : List A) (p : List A × List A) → splitOff n d ≡ some p → (n ≤ length d) × (p .0 ≡ take n d) × (p .1 ≡ drop n d)
 unfolding splitOff pick
-split-size n d p e =
+split-is n d p e =
     by-test (leb n (length d))
-    (λ t.
-    let h = leb-true n (length d) t in
-    let q : (take n d, drop n d) ≡ p = Option·some-injective (take n d, drop n d) p (rw t at e) in
-    rw (← q) (omega (arith, h, length-take n d), omega (arith, h, length-drop n d)))
+    (λ t. rw (← Option·some-injective (take n d, drop n d) p (rw t at e)) (leb-true n (length d) t, refl, refl))
     (λ t. absurd (Option·none-ne-some p (rw t at e)))
 
+-- it has its length
+split-size : {A : Type 0} (n : ℕ) (d : List A) (p : List A × List A) → splitOff n d ≡ some p → (length (p .0) ≡ n) × (length d ≡ n + length (p .1))
+split-size n d p e =
+    let s = split-is n d p e in
+    let front : length (p .0) ≡ length (take n d) = ap length (s .1) in
+    let rest : length (p .1) ≡ length (drop n d) = ap length (s .2) in
+    (omega (arith, s .0, front, length-take n d), omega (arith, s .0, rest, length-drop n d))
+
 -- further fields: at most k, of l + 1 bytes each
-digis-size : (l k b : ℕ) (d : List ℕ) (p : List (List ℕ) × List ℕ) → digiFields l k b d ≡ some p
+pub digis-size : (l k b : ℕ) (d : List ℕ) (p : List (List ℕ) × List ℕ) → digiFields l k b d ≡ some p
     → (length (p .0) ≤ k) × (length d ≡ length (p .0) * (l + 1) + length (p .1))
 unfolding digiFields pick
 digis-size l zero b d p e = rw (← Option·some-injective ([], d) p e) (omega arith, omega arith)

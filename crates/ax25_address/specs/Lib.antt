@@ -1,5 +1,6 @@
 pub mod Address
 pub mod Classify
+pub mod Digis
 pub mod Kind
 pub mod Parse
 pub mod Types

@@ -55,6 +55,16 @@ parseOf l d = do
     info = i;
   })
 
+-- n address fields of l + 1 bytes
+unfoldable pub fieldsOf : ℕ → ℕ → List ℕ → List (List ℕ)
+fieldsOf l zero d = []
+fieldsOf l (suc n) d = take (l + 1) d ∷ fieldsOf l n (drop (l + 1) d)
+
+-- how many digipeaters a frame has; nothing where it is short
+unfoldable pub countOf : Option Parsed → Option ℕ
+countOf none = none
+countOf (some r) = some (length (r .digis))
+
 -- both control 03 and PID F0
 abbrev pub isUi : Parsed → Bool
 isUi r = eqb (r .control) 0x03 && eqb (r .pid) 0xF0

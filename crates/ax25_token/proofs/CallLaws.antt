@@ -4,7 +4,7 @@ use mathlib.Core.Path.{_≡_, refl, sym, ap, _∙_}
 use mathlib.Core.Bool.{Bool}
 use mathlib.Core.List.{List, [], _∷_, _++_, append-assoc, append-nil}
 use mathlib.Core.Option.{Option, none, some, Option·some-injective, Option·none-ne-some}
-use Prim.Native.Nat.{ℕ, _+_, _/_, _%_, _≤_, _<_}
+use Prim.Native.Nat.{ℕ, _+_, _-_, _/_, _%_, _≤_, _<_}
 use native.Mathlib.Numerals.{add-one}
 use native.Mathlib.Omega.{arith}
 use lib.ListN.{length, take, drop, length-set}
@@ -162,3 +162,10 @@ module _ (b : List Bool) (o : Option (List ℕ × List Bool)) (r : Decoded) (tol
   pub token-nothing : r .token ≡ Nothing → o ≡ none
   unfolding callOf callBy texts
   token-nothing e = rw (← told, e)
+
+-- `&bytes[0..len]`
+pub text-front : (c : Call) → take (c .len - 0) (c .bytes) ≡ textOf c
+unfolding textOf
+text-front c =
+    let e : c .len - 0 ≡ c .len = omega arith in
+    ap (λ (n : ℕ). take n (c .bytes)) e

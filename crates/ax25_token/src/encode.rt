@@ -8,9 +8,11 @@ ghost use Rattle.laws.specs.Bits.{unpack};
 ghost use Rattle.laws.specs.Text.{same, isOneOf, starts};
 ghost use Rattle.laws.specs.Wrote.{Wrote};
 ghost use Rattle.bits.specs.Val.{valOf};
+ghost use Rattle.ax25_token.specs.Call.{textOf};
 ghost use Rattle.ax25_token.specs.Put.{codeView, casedOf, pairedBits, unnamedBits, unpairedBits, Puts};
 ghost use Rattle.ax25_token.specs.Tables.{alphaOf, numberedRows};
 ghost use Rattle.ax25_token.specs.Token.{baseOf, behind, numberAt, numberedBits, spell, ending, plainAp, apBits, spelledBits, orElse, tokenBits};
+use crate::Call;
 use crate::names::Counted;
 use crate::names::Row;
 use crate::names::fixed_of;
@@ -169,7 +171,7 @@ fn plain_ap(c: &[u8]) -> bool
 }
 
 // The same bytes.
-pub(crate) fn same(c: &[u8], n: &[u8]) -> bool
+pub fn same(c: &[u8], n: &[u8]) -> bool
     ensures { λ r. ⌜ r ≡ same (now (c .entry)) (now (n .entry)) ⌝ }
 {
     if c.len() != n.len() {
@@ -261,4 +263,24 @@ pub fn token_encode(c: &[u8], l: usize, out: &mut [u8], at: usize) -> Put
         return put_unpaired(c, l, out, at);
     };
     Put::Next(put_pair(c, i, k, w, out, at))
+}
+
+// The same of a call that is held.
+pub fn put_call(c: Call, l: usize, out: &mut [u8], at: usize) -> Put
+    requires { ⌜ (c .len ≤ 16) × (at < 2 ^ 60) ⌝ }
+    ensures { λ r. ⌜ Puts (unpack (now (out .entry))) at (tokenBits l (textOf c)) (unpack (now (out .exit))) r ⌝ }
+{
+    let bytes = c.bytes;
+    let n = c.len;
+    token_encode(&bytes[0..n], l, out, at)
+}
+
+// A call that is held starts with w.
+pub fn call_starts(c: Call, w: &[u8]) -> bool
+    requires { ⌜ c .len ≤ 16 ⌝ }
+    ensures { λ r. ⌜ r ≡ starts (now (w .entry)) (textOf c) ⌝ }
+{
+    let bytes = c.bytes;
+    let n = c.len;
+    starts(&bytes[0..n], w)
 }
