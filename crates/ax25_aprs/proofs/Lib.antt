@@ -2,8 +2,11 @@ pub mod BodyBack
 pub mod CallLaws
 mod Dictionary
 pub mod Examples
+pub mod FieldLaws
 mod HeightLaws
+pub mod PartLaws
 pub mod PlaceBack
+pub mod PlaceLaws
 pub mod Sizes
 mod Steps
 pub mod TextBack

@@ -123,7 +123,7 @@ text-most p s = or-most (7 * length s) 5 (textBits p s) (text-size p s)
 
 -- ---- a position: at most 58 bits and the comment
 
-side-size : (y n c : ℕ) → length (sideBits y n c) ≤ 1
+pub side-size : (y n c : ℕ) → length (sideBits y n c) ≤ 1
 unfolding sideBits pick
 side-size y n c = cases (eqb c y) (eqb c n)
   where
@@ -140,16 +140,25 @@ table-size c = cases (ltb (tableCode c) 8)
     cases true = omega (arith, length-bits 3 (tableCode c))
     cases false = omega (arith, length-top 7 c)
 
-place-size : (s : List ℕ) → length (placeBits s) ≤ 58
-unfolding placeBits latBits lonBits
-place-size s =
+pub lat-size : (s : List ℕ) → length (latBits s) ≤ 29
+unfolding latBits
+lat-size s =
     let v = valOf (take 4 s ++ take 2 (drop 5 s)) in
-    let w = valOf (take 5 (drop 9 s) ++ take 2 (drop 15 s)) in
     let n = sideBits 0x4E 0x53 (getD s 7 0) in
     let t = tableBits (getD s 8 0) in
+    omega (arith, length-append (topBits 20 v) (n ++ t), length-append n t, length-top 20 v, side-size 0x4E 0x53 (getD s 7 0), table-size (getD s 8 0))
+
+pub lon-size : (s : List ℕ) → length (lonBits s) ≤ 29
+unfolding lonBits
+lon-size s =
+    let w = valOf (take 5 (drop 9 s) ++ take 2 (drop 15 s)) in
     let e = sideBits 0x57 0x45 (getD s 17 0) in
     let y = topBits 7 (getD s 18 0) in
-    omega (arith, length-append (topBits 20 v ++ (n ++ t)) (topBits 21 w ++ (e ++ y)), length-append (topBits 20 v) (n ++ t), length-append n t, length-append (topBits 21 w) (e ++ y), length-append e y, length-top 20 v, length-top 21 w, length-top 7 (getD s 18 0), side-size 0x4E 0x53 (getD s 7 0), side-size 0x57 0x45 (getD s 17 0), table-size (getD s 8 0))
+    omega (arith, length-append (topBits 21 w) (e ++ y), length-append e y, length-top 21 w, length-top 7 (getD s 18 0), side-size 0x57 0x45 (getD s 17 0))
+
+place-size : (s : List ℕ) → length (placeBits s) ≤ 58
+unfolding placeBits
+place-size s = omega (arith, length-append (latBits s) (lonBits s), lat-size s, lon-size s)
 
 latlon-most : (s : List ℕ) → AtMost (7 * (length s - 10)) (latlonBits s)
 unfolding latlonBits

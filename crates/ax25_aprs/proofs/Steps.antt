@@ -1,28 +1,25 @@
 -- What the answers of the coder of a text say, and one step of it after another.
 -- Assumes nothing.
-use mathlib.Core.Path.{_≡_, refl, sym, ap}
+use mathlib.Core.Path.{_≡_, refl, ap}
 use mathlib.Core.Bool.{Bool}
-use mathlib.Core.List.{List, [], _∷_, _++_}
+use mathlib.Core.List.{List, [], _∷_}
 use mathlib.Core.Option.{Option, none, some}
 use Prim.Native.Nat.{ℕ, _+_, _-_, _*_, _≤_, _<_}
-use native.Mathlib.Nat.{add-zero}
 use native.Mathlib.Omega.{arith}
-use lib.ListN.{length, take, drop, length-append, length-drop}
-use lib.Seq.{take-all, drop-drop}
+use lib.ListN.{length, drop, length-drop}
+use lib.Seq.{drop-drop}
 use Rattle.laws.specs.Wrote.{Wrote}
-use Rattle.laws.proofs.WroteLaws.{wrote-none, wrote-then}
-use Rattle.ax25_aprs.specs.Text.{before, joined, frontBits, frontSize, textBits}
-use Rattle.ax25_aprs.specs.Put.{numberOf, Stepped, Did}
+use Rattle.laws.proofs.WroteLaws.{wrote-none}
+use Rattle.ax25_aprs.specs.Text.{joined, frontBits, frontSize, textBits}
+use Rattle.ax25_aprs.specs.Coded.{orRefused}
+use Rattle.ax25_aprs.specs.Put.{numberOf, Stepped, Does}
 use Rattle.ax25_aprs.specs.declared.height.Number.the-variants.{Is, Not}
 use Rattle.ax25_aprs.specs.declared.text.Step.the-variants.{Took, Stuck}
-use Rattle.ax25_aprs.specs.declared.text.Put.{Put}
-use Rattle.ax25_aprs.specs.declared.text.Put.the-variants.{Next, Bad}
+use Rattle.ax25_aprs.specs.declared.part.Part.{Part}
+use Rattle.ax25_aprs.specs.declared.part.Part.the-variants.{Next, Refused}
+use Rattle.ax25_aprs.proofs.PartLaws.{at-place, does, does-then, refused-joined}
 use Rattle.ax25_aprs.proofs.TextLaws.{text-nil, text-step, size-pos}
 use Rattle.ax25_aprs.proofs.Sizes.{size-le, front-size}
-
--- a part from a on is all that is behind a
-pub rest-of : (a : ℕ) (s : List ℕ) → take (length s - a) (drop a s) ≡ drop a s
-rest-of a s = take-all (length s - a) (drop a s) (omega (arith, length-drop a s))
 
 pub number-is : (o : Option ℕ) (n : ℕ) → numberOf o ≡ Is n → o ≡ some n
 unfolding numberOf
@@ -33,10 +30,6 @@ pub number-not : (o : Option ℕ) → numberOf o ≡ Not → o ≡ none
 unfolding numberOf
 number-not none e = refl
 number-not (some m) e = let z : _≡_ {A = ℕ} 0 1 = cc in absurd (omega arith)
-
--- a write gives its place
-at-place : {b : List Bool} {at : ℕ} {x c : List Bool} {next : ℕ} → Wrote b at x c next → Wrote b at x c (at + length x)
-at-place w = record { stored = w .stored; next-is = refl }
 
 -- a write that was done
 pub stepped : {b : List Bool} {at : ℕ} {x c : List Bool} {next : ℕ} (k : ℕ) → Wrote b at x c next → Stepped (some x) k b at c (Took k next)
@@ -61,21 +54,12 @@ stuck (some x) k b at c e =
     let z : _≡_ {A = ℕ} 0 1 = cc in
     absurd (omega arith)
 
--- x, and then y
-did-then : (b : List Bool) (at : ℕ) (x : List Bool) (y : Option (List Bool)) (c d : List Bool) (p : ℕ) (r : Put)
-    → Wrote b at x c p → Did y c p d r → Did (joined (some x) y) b at d r
-unfolding joined before
-did-then b at x none c d p r w h = h
-did-then b at x (some y) c d p r w h =
-    let e : p + length y ≡ at + length (x ++ y) = omega (arith, w .next-is, length-append x y) in
-    (rw e at (h .0), rw e at (wrote-then w (h .1)))
-
 -- one turn over a text s, at its byte i: from the bits b at a position, size bytes coded, which leaves c and the next position
 pub record Turn (p : Bool) (s : List ℕ) (i : ℕ) (b : List Bool) (at : ℕ) (c : List Bool) (size place : ℕ) : Type 0 where
   pub grows : 0 < size
   pub within : i + size ≤ length s
   pub room : place + (length s - (i + size)) * 7 ≤ at + (length s - i) * 7
-  pub on : (e : List Bool) (r : Put) → Did (textBits p (drop (i + size) s)) c place e r → Did (textBits p (drop i s)) b at e r
+  pub on : (e : List Bool) (r : Part) → Does (orRefused 5 (textBits p (drop (i + size) s))) c place e r → Does (orRefused 5 (textBits p (drop i s))) b at e r
 
 module _ (p : Bool) (s : List ℕ) (i : ℕ) (h : i < length s) (b : List Bool) (at : ℕ) where
   some-byte : 0 < length (drop i s)
@@ -92,8 +76,8 @@ module _ (p : Bool) (s : List ℕ) (i : ℕ) (h : i < length s) (b : List Bool) 
         within = omega (arith, length-drop i s);
         room = omega (arith, length-drop i s, done .next-is);
         on = λ e r d.
-            rw (text-step p t some-byte, is-some, drop-drop (frontSize p t) i s, ← size-is)
-            (did-then b at x (textBits p (drop (i + size) s)) c e place r done d);
+            rw (text-step p t some-byte, is-some, drop-drop (frontSize p t) i s, ← size-is, refused-joined 5 x (textBits p (drop (i + size) s)))
+            (does-then done (orRefused 5 (textBits p (drop (i + size) s))) e r d);
       }
 
   pub turn : (c : List Bool) (size place : ℕ) → Stepped (frontBits p (drop i s)) (frontSize p (drop i s)) b at c (Took size place) → Turn p s i b at c size place
@@ -102,11 +86,11 @@ module _ (p : Bool) (s : List ℕ) (i : ℕ) (h : i < length s) (b : List Bool) 
       turn-of c size place (k .x) (k .is-some) (k .size-is) (k .done)
 
   -- an altitude that is no number ends it
-  pub stop : (c e : List Bool) → Stepped (frontBits p (drop i s)) (frontSize p (drop i s)) b at c Stuck → Did (textBits p (drop i s)) b at e Bad
+  pub stop : (c e : List Bool) → Stepped (frontBits p (drop i s)) (frontSize p (drop i s)) b at c Stuck → Does (orRefused 5 (textBits p (drop i s))) b at e (Refused 5)
   unfolding joined
   stop c e f = rw (text-step p (drop i s) some-byte, stuck (frontBits p (drop i s)) (frontSize p (drop i s)) b at c f) refl
 
 -- nothing is left
-pub all-done : (p : Bool) (s : List ℕ) (b : List Bool) (at : ℕ) → length s ≡ 0 → Did (textBits p s) b at b (Next at)
-all-done p [] b at h = rw (text-nil p) (ap Next (sym (add-zero at)), at-place wrote-none)
+pub all-done : (p : Bool) (s : List ℕ) (b : List Bool) (at : ℕ) → length s ≡ 0 → Does (orRefused 5 (textBits p s)) b at b (Next at)
+all-done p [] b at h = rw (text-nil p) (does wrote-none)
 all-done p (c ∷ s) b at h = absurd (omega arith)

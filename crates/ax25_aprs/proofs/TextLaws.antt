@@ -36,7 +36,7 @@ pub padded-more : (n v : ℕ) → 10 ^ n ≤ v → padded n v ≡ digits (suc n)
 unfolding padded pick
 padded-more n v h = rw (le-ltb v (10 ^ n) h)
 
-length-padded : (n v : ℕ) → length (padded n v) ≤ suc n
+pub length-padded : (n v : ℕ) → length (padded n v) ≤ suc n
 length-padded n v =
     by-le (10 ^ n) v
     (λ h. rw (padded-more n v h) (omega (arith, length-digits (suc n) v)))

@@ -1,17 +1,25 @@
 -- Bits that were read as a number.
 -- Assumes nothing.
-use mathlib.Core.Path.{_≡_, sym, _∙_}
-use mathlib.Core.Bool.{Bool}
+use mathlib.Core.Path.{_≡_, refl, sym, ap, _∙_}
+use mathlib.Core.Bool.{Bool, true, false}
 use mathlib.Core.List.{List}
-use Prim.Native.Nat.{ℕ, _+_, _-_, _*_, _≤_, min}
+use Prim.Native.Nat.{ℕ, _+_, _-_, _*_, _≤_, _<_, min}
+use native.Mathlib.Nat.{add-zero}
 use native.Mathlib.Omega.{arith}
-use lib.ListN.{length, take, drop}
-use lib.Seq.{take-all}
-use Rattle.laws.specs.Bits.{valueOf, unpack}
+use lib.ListN.{length, getD, take, drop, length-drop}
+use lib.Seq.{take-all, getD-drop}
+use lib.Dec.{eqb}
+use Rattle.laws.specs.Bits.{num, valueOf, unpack}
+use Rattle.laws.proofs.BitLaws.{value-take-suc}
+use Rattle.laws.proofs.ByteLaws.{length-unpack}
 use Rattle.laws.proofs.Cases.{by-le}
 use Rattle.bits.specs.Read.{takeBits, taken}
 use Rattle.bits.specs.declared.read.Taken.the-variants.{Bits, Short}
 use Rattle.bits.proofs.ReadLaws.{taken-bits}
+
+-- how many bits there are from a position on
+pub bits-left : (s : List ℕ) (at : ℕ) → length (drop at (unpack s)) ≡ length s * 8 - at
+bits-left s at = omega (arith, length-drop at (unpack s), length-unpack s)
 
 -- as many as there are
 pub take-min : (k : ℕ) (l : List Bool) → take (min k (length l)) l ≡ take k l
@@ -31,3 +39,19 @@ module _ (s : List ℕ) (at n : ℕ) (h : n ≤ length s * 8 - at) where
   value-told v q e =
       let f : Bits (valueOf (take n (drop at (unpack s)))) (at + n) ≡ Bits v q = sym (taken-bits s at n h) ∙ e in
       cc
+
+num-test : (x : Bool) → eqb (num x) 1 ≡ x
+unfolding num
+num-test true = refl
+num-test false = refl
+
+one-value : (u : List Bool) (at : ℕ) → at < length u → valueOf (take 1 (drop at u)) ≡ num (getD u at false)
+unfolding valueOf
+one-value u at h =
+    let g : getD (drop at u) 0 false ≡ getD u at false = getD-drop at u 0 false ∙ ap (λ (i : ℕ). getD u i false) (add-zero at) in
+    let t : valueOf (take 1 (drop at u)) ≡ 0 * 2 + num (getD (drop at u) 0 false) = value-take-suc (drop at u) 0 (omega (arith, length-drop at u)) in
+    rw (← g) (omega (arith, t))
+
+-- one bit as a number, tested
+pub bit-told : (u : List Bool) (at v : ℕ) → at < length u → v ≡ valueOf (take 1 (drop at u)) → eqb v 1 ≡ getD u at false
+bit-told u at v h e = ap (λ (x : ℕ). eqb x 1) (e ∙ one-value u at h) ∙ num-test (getD u at false)

@@ -1,5 +1,10 @@
-// The bodies of APRS frames: text with the dictionary and altitudes.
+// The bodies of APRS frames: text with the dictionary and altitudes, positions with and without a time, fields of third-party bodies.
+pub mod body;
+mod field;
 mod height;
+pub mod latlon;
 mod number;
+pub mod part;
 pub mod text;
+pub mod third;
 mod words;

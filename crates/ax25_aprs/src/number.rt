@@ -20,7 +20,7 @@ fn digit(v: u64, n: usize) -> u8
 }
 
 // The n low digits of v. The next place.
-fn put_digits(out: &mut [u8], at: usize, n: usize, v: u64) -> usize
+pub fn put_digits(out: &mut [u8], at: usize, n: usize, v: u64) -> usize
     requires { ⌜ (n ≤ 8) × (at < 2 ^ 61) ⌝ }
     ensures { λ r. ⌜ Wrote (now (out .entry)) at (digits n v) (now (out .exit)) r ⌝ }
 {
@@ -34,7 +34,7 @@ fn put_digits(out: &mut [u8], at: usize, n: usize, v: u64) -> usize
 }
 
 // 10 to the n.
-fn ten(n: usize) -> u64
+pub fn ten(n: usize) -> u64
     requires { ⌜ n < 8 ⌝ }
     ensures { λ r. ⌜ r ≡ 10 ^ n ⌝ }
 {

@@ -1,9 +1,10 @@
 // Position text and messages: `text_encode` and `text_decode` of the source.
+use crate::field;
 use crate::height;
 use crate::height::Number;
 use crate::number;
+use crate::part::Part;
 use crate::words;
-use bits::read::Taken;
 ghost use mathlib.Core.Path.{_≡_};
 ghost use mathlib.Core.Bool.{_&&_};
 ghost use Prim.Native.Nat.{_+_, _-_, _*_, _^_, _≤_, _<_, min};
@@ -11,26 +12,14 @@ ghost use lib.ListN.{length, take, drop};
 ghost use lib.Dec.{eqb, leb};
 ghost use Rattle.laws.specs.Bits.{valueOf, unpack};
 ghost use Rattle.laws.specs.Wrote.{Wrote};
+ghost use Rattle.ax25_aprs.specs.Coded.{orRefused};
 ghost use Rattle.ax25_aprs.specs.Text.{altitude, altitudeBits, frontBits, frontSize, textBits, altitudeText, codeText, codeSpan, readText};
-ghost use Rattle.ax25_aprs.specs.Put.{Stepped, Did};
+ghost use Rattle.ax25_aprs.specs.Put.{Stepped, Does};
 
 // What coding the front of a text gave: how many bytes it took, and the next position; or an altitude is no number.
 pub enum Step {
     Took(usize, usize),
     Stuck,
-}
-
-// What coding a text gave: the next position, or an altitude is no number.
-pub enum Put {
-    Next(usize),
-    Bad,
-}
-
-// A byte as a word.
-fn wide(x: u8) -> u64
-    ensures { λ r. ⌜ r ≡ x ⌝ }
-{
-    x as u64
 }
 
 // An altitude: in a position type, the first word with four more bytes.
@@ -65,7 +54,7 @@ fn front(s: &[u8], position: bool, out: &mut [u8], at: usize) -> Step
 {
     let n = words::word_at(s);
     if n == 0 {
-        return Step::Took(1, bits::write::push_bfi(out, at, wide(s[0]), 7));
+        return Step::Took(1, bits::write::push_bfi(out, at, field::wide(s[0]), 7));
     }
     if is_altitude(position, n, s.len()) {
         return with_altitude(s, out, at);
@@ -74,31 +63,20 @@ fn front(s: &[u8], position: bool, out: &mut [u8], at: usize) -> Step
 }
 
 // A text from a position on; where an altitude is no number nothing is said of the output.
-pub fn text_encode(s: &[u8], position: bool, out: &mut [u8], at: usize) -> Put
-    requires { ⌜ (length (now s) < 2 ^ 56) × (at < 2 ^ 60) ⌝ }
-    ensures { λ r. ⌜ Did (textBits position (now (s .entry))) (unpack (now (out .entry))) at (unpack (now (out .exit))) r ⌝ }
+pub fn text_encode(s: &[u8], position: bool, out: &mut [u8], at: usize) -> Part
+    requires { ⌜ at + length (now s) * 7 < 2 ^ 61 ⌝ }
+    ensures { λ r. ⌜ Does (orRefused 5 (textBits position (now (s .entry)))) (unpack (now (out .entry))) at (unpack (now (out .exit))) r ⌝ }
 {
     let mut i = 0;
     let mut next = at;
     while i < s.len() {
         let Step::Took(size, place) = front(&s[i..], position, out, next) else {
-            return Put::Bad;
+            return Part::Refused(refusals::FORMAT);
         };
         i += size;
         next = place;
     }
-    Put::Next(next)
-}
-
-// The n bits from a position on, as a number.
-fn value(s: &[u8], at: usize, n: usize) -> u64
-    requires { ⌜ (n ≤ 64) × (n ≤ length (now s) * 8 - at) × (length (now s) < 2 ^ 60) ⌝ }
-    ensures { λ r. ⌜ r ≡ valueOf (take n (drop at (unpack (now (s .entry))))) ⌝ }
-{
-    let Taken::Bits(v, _) = bits::read::take(s, at, n) else {
-        return 0;
-    };
-    v
+    Part::Next(next)
 }
 
 // How many bits a code takes behind it.
@@ -130,7 +108,7 @@ fn put_altitude(s: &[u8], at: usize, position: bool, out: &mut [u8], to: usize) 
         return to;
     }
     let n = least(14, bits::read::remaining(s, at));
-    number::put_padded(out, to, 4, value(s, at, n))
+    number::put_padded(out, to, 4, field::value(s, at, n))
 }
 
 // What a code of seven bits stands for, by its range, with the bits behind it. The next place.
@@ -159,7 +137,7 @@ pub fn text_decode(s: &[u8], at: usize, position: bool, out: &mut [u8], to: usiz
     let mut i = at;
     let mut next = to;
     while 7 <= bits::read::remaining(s, i) {
-        let code = value(s, i, 7);
+        let code = field::value(s, i, 7);
         let behind = i + 7;
         next = put_code(s, behind, position, code, out, next);
         i = behind + span(position, code);

@@ -11,7 +11,7 @@ use Rattle.laws.specs.Text.{trimFront, trimEnd, trim}
 use Rattle.ax25_aprs.specs.Text.{blank}
 use Rattle.ax25_aprs.specs.Text.{altitude, unsigned, noPlus}
 use Rattle.ax25_aprs.specs.Put.{numberOf}
-use Rattle.ax25_aprs.proofs.Steps.{rest-of}
+use Rattle.laws.proofs.ListLaws.{from-place}
 use Rattle.ax25_aprs.proofs.height.read.Statement.{statement}
 use Rattle.ax25_aprs.proofs.height.read.Tie as tie
 
@@ -54,7 +54,7 @@ returns c =
     let a = f .result in
     let k : a + e .result - a ≡ e .result = omega arith in
     let part : take (a + e .result - a) (drop a s) ≡ trimEnd blank (trimFront blank s) =
-    rw k (ap (take (e .result)) (sym (rest-of a s)) ∙ e .ensures .1 ∙ ap (trimEnd blank) (rest-of a s ∙ f .ensures .1)) in
+    rw k (ap (take (e .result)) (sym (from-place s a)) ∙ e .ensures .1 ∙ ap (trimEnd blank) (from-place s a ∙ f .ensures .1)) in
     c .signed .ensures ∙ ap (λ (l : List ℕ). numberOf (unsigned (noPlus l))) part
 
 pub read-spec : {M : Type 1} → statement M

@@ -5,7 +5,7 @@ use borrow.Author.Needs.{needs}
 use denote.Ref.{now}
 use Rattle.ax25_aprs.proofs.HeightLaws.{unsigned-none, plus-none, plus-yes, plus-no}
 use Rattle.ax25_aprs.specs.Put.{numberOf}
-use Rattle.ax25_aprs.proofs.Steps.{rest-of}
+use Rattle.laws.proofs.ListLaws.{from-place}
 use Rattle.ax25_aprs.proofs.height.signed.Statement.{statement}
 use Rattle.ax25_aprs.proofs.height.signed.Tie as tie
 
@@ -33,7 +33,7 @@ digits-requires c κs = search needs
 returns-2 : tie.Need-returns-2
 returns-2 c =
     let s = now (c .before .before .before .before .before .before .args .s) in
-    rw (plus-yes s (omega arith) (c .before .before .if2 .taken), ← rest-of 1 s) (c .digits .ensures)
+    rw (plus-yes s (omega arith) (c .before .before .if2 .taken), ← from-place s 1) (c .digits .ensures)
 
 digits-requires-2 : tie.Need-digits-requires-2
 digits-requires-2 c κs = search needs

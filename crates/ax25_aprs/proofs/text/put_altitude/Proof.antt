@@ -4,14 +4,13 @@ use native.Mathlib.Omega.{arith}
 use borrow.Author.Needs.{needs}
 use mathlib.Core.Path.{_≡_}
 use Prim.Native.Nat.{min}
-use lib.ListN.{length, drop, length-drop}
+use lib.ListN.{length, drop}
 use borrow.Author.Tests.{not-true, not-false}
 use denote.Ref.{now}
 use Rattle.laws.specs.Bits.{unpack}
-use Rattle.laws.proofs.ByteLaws.{length-unpack}
 use Rattle.ax25_aprs.proofs.TextLaws.{altitude-number, altitude-no}
 use Rattle.laws.proofs.WroteLaws.{wrote-none}
-use Rattle.ax25_aprs.proofs.ValueLaws.{take-min}
+use Rattle.ax25_aprs.proofs.ValueLaws.{bits-left, take-min}
 use Rattle.ax25_aprs.proofs.text.put_altitude.Statement.{statement}
 use Rattle.ax25_aprs.proofs.text.put_altitude.Tie as tie
 
@@ -40,7 +39,7 @@ returns-2 c =
     let a = c .before .before .before .before .before .before .before .before .before .before .args in
     let b = drop (a .at) (unpack (now (a .s))) in
     let n = c .before .before .before .before .before .least in
-    let e : n .result ≡ min 14 (length b) = omega (arith, n .ensures, c .before .before .before .before .before .before .remaining .ensures, length-drop (a .at) (unpack (now (a .s))), length-unpack (now (a .s))) in
+    let e : n .result ≡ min 14 (length b) = omega (arith, n .ensures, c .before .before .before .before .before .before .remaining .ensures, bits-left (now (a .s)) (a .at)) in
     rw (not-false (a .position) (c .before .before .before .before .before .before .before .if1 .left), altitude-number b, ← take-min 14 b, ← e, ← c .before .before .before .value .ensures) (c .before .before .put-padded .ensures)
 
 pub put-altitude-spec : {M : Type 1} → statement M

@@ -5,16 +5,16 @@ use borrow.Author.Needs.{needs}
 use mathlib.Core.Path.{_≡_}
 use mathlib.Core.List.{List}
 use Prim.Native.Nat.{ℕ, _+_, _-_, _*_, _≤_, _<_}
-use lib.ListN.{length, drop, length-drop}
+use lib.ListN.{length, drop}
 use lib.Seq.{drop-drop}
 use denote.Ref.{now}
 use Rattle.laws.specs.Bits.{unpack}
 use Rattle.laws.proofs.BitLaws.{value-take-lt}
-use Rattle.laws.proofs.ByteLaws.{length-unpack}
 use Rattle.ax25_aprs.specs.Text.{codeSpan, readText}
 use Rattle.ax25_aprs.proofs.TextLaws.{read-short, read-step, span-le, code-length}
 use Rattle.laws.specs.Wrote.{Wrote}
 use Rattle.laws.proofs.WroteLaws.{wrote-none, wrote-then}
+use Rattle.ax25_aprs.proofs.ValueLaws.{bits-left}
 use Rattle.ax25_aprs.proofs.text.text_decode.Statement.{statement}
 use Rattle.ax25_aprs.proofs.text.text_decode.Tie as tie
 
@@ -69,7 +69,7 @@ loop-again c =
     let put = c .before .before .before .put-code in
     let n = codeSpan (a .position) (read .result) in
     let small = span-le (a .position) (read .result) in
-    let many : 7 ≤ length b = omega (arith, length-drop i u, length-unpack (now (a .s)), left) in
+    let many : 7 ≤ length b = omega (arith, bits-left (now (a .s)) i, left) in
     let on : i + (7 + n) ≡ i + 7 + c .span .result = omega (arith, c .span .ensures) in (
       search needs,
       omega (arith, c .span .ensures, small, left, put .ensures .next-is, code-length (a .position) (read .result) (drop (i + 7) u)),
@@ -84,7 +84,7 @@ returns c =
     let at-loop = c .before .before in
     let a = at-loop .before .before .before .args in
     let b = drop (at-loop .loop .i) (unpack (now (a .s))) in
-    let few : length b < 7 = omega (arith, length-drop (at-loop .loop .i) (unpack (now (a .s))), length-unpack (now (a .s)), c .before .remaining .ensures) in
+    let few : length b < 7 = omega (arith, bits-left (now (a .s)) (at-loop .loop .i), c .before .remaining .ensures) in
     at-loop .loop .inv .2 (at-loop .loop .out) (at-loop .loop .next) (rw (read-short (a .position) b few) wrote-none)
 
 pub text-decode-spec : {M : Type 1} → statement M

@@ -9,17 +9,19 @@ use Prim.Native.Nat.{_+_, _-_, _*_, _≤_}
 use lib.ListN.{length, drop, length-drop}
 use denote.Ref.{now}
 use Rattle.laws.specs.Bits.{unpack}
+use Rattle.laws.proofs.ListLaws.{from-place}
+use Rattle.ax25_aprs.specs.Coded.{orRefused}
 use Rattle.ax25_aprs.specs.Text.{textBits}
-use Rattle.ax25_aprs.specs.Put.{Did}
-use Rattle.ax25_aprs.specs.declared.text.Put.{Put}
-use Rattle.ax25_aprs.proofs.Steps.{rest-of, Turn, turn, stop, all-done}
+use Rattle.ax25_aprs.specs.Put.{Does}
+use Rattle.ax25_aprs.specs.declared.part.Part.{Part}
+use Rattle.ax25_aprs.proofs.Steps.{Turn, turn, stop, all-done}
 use Rattle.ax25_aprs.proofs.text.text_encode.Statement.{statement}
 use Rattle.ax25_aprs.proofs.text.text_encode.Tie as tie
 
 abbrev Inv-loop : tie.InvT-loop
 Inv-loop s position out₀ at i₀ next₀ out i next =
     (i ≤ length s) × (length out ≡ length out₀) × (next + (length s - i) * 7 ≤ at + length s * 7)
-    × ((e : List Bool) (r : Put) → Did (textBits position (drop i s)) (unpack out) next e r → Did (textBits position s) (unpack out₀) at e r)
+    × ((e : List Bool) (r : Part) → Does (orRefused 5 (textBits position (drop i s))) (unpack out) next e r → Does (orRefused 5 (textBits position s)) (unpack out₀) at e r)
 
 abbrev μ-loop : tie.MeasureT-loop
 μ-loop s position out₀ at i₀ next₀ out i next = length s - i
@@ -41,7 +43,7 @@ front-requires c κs =
     let at-loop = c .before .before .before in
     let s = now (at-loop .before .before .before .args .s) in
     let i = at-loop .loop .i in
-    rw (rest-of i s) (omega (arith, length-drop i s), search needs)
+    rw (from-place s i) (omega (arith, length-drop i s), search needs)
 
 enum-known-size : tie.Need-enum-known-size Inv-loop μ-loop
 enum-known-size c = search needs
@@ -60,7 +62,7 @@ returns c =
     let i = at-loop .loop .i in
     let f = c .before .before .before .before .front in
     let left = unpack (f .last .1 .1 .0) in
-    at-loop .loop .inv .3 left _ (stop (a .position) s i (omega arith) (unpack (at-loop .loop .out)) (at-loop .loop .next) left left (rw (rest-of i s, c .enum-told .given .1) at (f .ensures)))
+    at-loop .loop .inv .3 left _ (stop (a .position) s i (omega arith) (unpack (at-loop .loop .out)) (at-loop .loop .next) left left (rw (from-place s i, c .enum-told .given .1) at (f .ensures)))
 
 turned : (c : tie.After-known-told Inv-loop μ-loop)
     → let at-loop = c .before .before .before .before .before .before .before .before .before in
@@ -72,7 +74,7 @@ turned c =
     let i = at-loop .loop .i in
     let f = c .before .before .before .before .before .front in
     let took = c .before .size .given in
-    turn (a .position) s i (omega arith) (unpack (at-loop .loop .out)) (at-loop .loop .next) (unpack (f .last .1 .1 .0)) (took .0 .0) (took .0 .1 .0) (rw (rest-of i s, took .1) at (f .ensures))
+    turn (a .position) s i (omega arith) (unpack (at-loop .loop .out)) (at-loop .loop .next) (unpack (f .last .1 .1 .0)) (took .0 .0) (took .0 .1 .0) (rw (from-place s i, took .1) at (f .ensures))
 
 add-i : tie.Need-add-i Inv-loop μ-loop
 add-i c = omega (arith, turned c .within)

@@ -1,12 +1,12 @@
--- `ax25_aprs::text::value` meets its contract: there are n bits to take.
+-- `ax25_aprs::field::value` meets its contract: there are n bits to take.
 -- Assumes nothing.
 use borrow.Author.Needs.{needs}
 use native.Mathlib.Omega.{arith}
 use mathlib.Core.Path.{sym, _∙_}
 use denote.Ref.{now}
 use Rattle.ax25_aprs.proofs.ValueLaws.{not-short, value-told}
-use Rattle.ax25_aprs.proofs.text.value.Statement.{statement}
-use Rattle.ax25_aprs.proofs.text.value.Tie as tie
+use Rattle.ax25_aprs.proofs.field.value.Statement.{statement}
+use Rattle.ax25_aprs.proofs.field.value.Tie as tie
 
 take-requires : tie.Need-take-requires
 take-requires c κs = search needs
