@@ -1,0 +1,113 @@
+-- White space by ranges, trimming from the end byte by byte, and letters put into a call.
+-- Assumes nothing.
+use mathlib.Core.Path.{_≡_, refl, sym, ap, _∙_}
+use mathlib.Core.Bool.{Bool, true, false}
+use mathlib.Core.List.{List, [], _∷_, _++_, map, map-append}
+use Prim.Native.Nat.{ℕ, suc, _+_, _-_, _≤_, _<_}
+use native.Mathlib.Numerals.{add-one}
+use native.Mathlib.Omega.{arith}
+use lib.ListN.{length, getD, take, drop, length-map}
+use lib.Seq.{take-suc}
+use lib.Dec.{eqb}
+use borrow.Author.Tests.{le-leb, lt-leb, eq-eqb, ne-eqb}
+use Rattle.laws.specs.Pick.{pick}
+use Rattle.laws.specs.Text.{between, trimFront, trimEnd, trim}
+use Rattle.laws.proofs.Cases.{by-le}
+use Rattle.laws.proofs.ListLaws.{from-place}
+use Rattle.laws.proofs.TrimLaws.{end-on, end-here, trim-le}
+use Rattle.ax25_token.specs.declared.Call.{Call}
+use Rattle.ax25_token.specs.Call.{textOf, empty, pushed, appended}
+use Rattle.ax25_token.proofs.CallLaws.{appended-append, len-appended, text-back}
+use Rattle.ax25_address.specs.Address.{white, blank, whiteIn}
+
+-- ---- white space by ranges
+
+module _ (x : ℕ) where
+  pub white-low : (call : Bool) → x < 9 → false ≡ whiteIn call x
+  unfolding white blank between pick
+  white-low true h = rw (lt-leb 9 x h, lt-leb 28 x (omega arith))
+  white-low false h = rw (lt-leb 9 x h, ne-eqb x 32 (λ e. omega arith))
+
+  pub white-first : (call : Bool) → 9 ≤ x → x ≤ 13 → true ≡ whiteIn call x
+  unfolding white blank between pick
+  white-first true h k = rw (le-leb 9 x h, le-leb x 13 k)
+  white-first false h k = rw (le-leb 9 x h, le-leb x 13 k)
+
+  pub white-middle : (call : Bool) → 13 < x → x < 28 → false ≡ whiteIn call x
+  unfolding white blank between pick
+  white-middle true h k = rw (lt-leb x 13 h, le-leb 9 x (omega arith), lt-leb 28 x k)
+  white-middle false h k = rw (lt-leb x 13 h, le-leb 9 x (omega arith), ne-eqb x 32 (λ e. omega arith))
+
+  pub white-call : (call : Bool) → 28 ≤ x → x < 32 → call ≡ whiteIn call x
+  unfolding white blank between pick
+  white-call true h k = rw (lt-leb x 13 (omega arith), le-leb 9 x (omega arith), le-leb 28 x h, le-leb x 32 (omega arith))
+  white-call false h k = rw (lt-leb x 13 (omega arith), le-leb 9 x (omega arith), ne-eqb x 32 (λ e. omega arith))
+
+  pub white-last : (call : Bool) → 32 ≤ x → eqb x 32 ≡ whiteIn call x
+  unfolding white blank between pick
+  white-last true h =
+      rw (lt-leb x 13 (omega arith), le-leb 9 x (omega arith), le-leb 28 x (omega arith))
+      (by-le x 32 (λ k. rw (eq-eqb x 32 (omega arith), le-leb x 32 k)) (λ k. rw (ne-eqb x 32 (λ e. omega arith), lt-leb x 32 k)))
+  white-last false h = rw (lt-leb x 13 (omega arith), le-leb 9 x (omega arith))
+
+-- ---- byte by byte from the end
+
+module _ (w : ℕ → Bool) (s : List ℕ) (i : ℕ) (h : i < length s) where
+  pub right-more : w (getD s i 0) ≡ true → trimEnd w (take (suc i) s) ≡ trimEnd w (take i s)
+  right-more e = rw (take-suc s i 0 h) (end-on w (take i s) (getD s i 0) e)
+
+  pub right-here : w (getD s i 0) ≡ false → trimEnd w (take (suc i) s) ≡ take (suc i) s
+  right-here e = rw (take-suc s i 0 h) (end-here w (take i s) (getD s i 0) e)
+
+-- ---- both ends
+
+-- `&s[a..a + e]` with the answers of `front`, and of `end` over `&s[a..]`
+part-trimmed : (w : ℕ → Bool) (s : List ℕ) (a e : ℕ) → drop a s ≡ trimFront w s → take e (take (length s - a) (drop a s)) ≡ trimEnd w (take (length s - a) (drop a s))
+    → take (a + e - a) (drop a s) ≡ trim w s
+unfolding trim
+part-trimmed w s a e f g =
+    let k : a + e - a ≡ e = omega arith in
+    rw k (ap (take e) (sym (from-place s a)) ∙ g ∙ ap (trimEnd w) (from-place s a ∙ f))
+
+module _ (s : List ℕ) (a e : ℕ) where
+  pub call-trimmed : drop a s ≡ trimFront (whiteIn true) s → take e (take (length s - a) (drop a s)) ≡ trimEnd (whiteIn true) (take (length s - a) (drop a s))
+      → take (a + e - a) (drop a s) ≡ trim white s
+  unfolding pick
+  call-trimmed = part-trimmed white s a e
+
+  pub height-trimmed : drop a s ≡ trimFront (whiteIn false) s → take e (take (length s - a) (drop a s)) ≡ trimEnd (whiteIn false) (take (length s - a) (drop a s))
+      → take (a + e - a) (drop a s) ≡ trim blank s
+  unfolding pick
+  height-trimmed = part-trimmed blank s a e
+
+-- ---- letters put into a call
+
+pub none-taken : (g : ℕ → ℕ) (s : List ℕ) → empty ≡ appended empty (map g (take 0 s))
+unfolding appended
+none-taken g s = refl
+
+-- a call with a letter more
+pub letter-more : (g : ℕ → ℕ) (s : List ℕ) (i : ℕ) → i < length s → (c d : Call) → c ≡ appended empty (map g (take i s)) → d ≡ pushed c (g (getD s i 0))
+    → d ≡ appended empty (map g (take (i + 1) s))
+unfolding appended
+letter-more g s i h c d e f =
+    let t = take i s in
+    let x = getD s i 0 in
+    let next : take (i + 1) s ≡ t ++ (x ∷ []) = rw (add-one i) (take-suc s i 0 h) in
+    f
+    ∙ ap (λ (k : Call). pushed k (g x)) e
+    ∙ appended-append empty (map g t) (g x ∷ [])
+    ∙ ap (appended empty) (sym (map-append g t (x ∷ [])))
+    ∙ ap (λ (u : List ℕ). appended empty (map g u)) (sym next)
+
+-- a call of a text trimmed
+pub trimmed-text : (g : ℕ → ℕ) (s t : List ℕ) (r : Call) → length s ≤ 16 → t ≡ trim white s → r ≡ appended empty (map g t)
+    → (textOf r ≡ map g (trim white s)) × (r .len ≤ length s) × (r ≡ appended empty (map g (trim white s)))
+trimmed-text g s t r n e f =
+    let u = map g (trim white s) in
+    let whole : r ≡ appended empty u = f ∙ ap (λ (x : List ℕ). appended empty (map g x)) e in
+    let few : length u ≤ length s = omega (arith, length-map (trim white s) g, trim-le white s) in (
+      ap textOf whole ∙ text-back u (omega arith),
+      omega (arith, ap (λ (x : Call). x .len) whole, len-appended empty u),
+      whole,
+    )
