@@ -1,4 +1,4 @@
--- White space by ranges, trimming from the end byte by byte, and letters put into a call.
+-- White space by ranges, trimming from the end byte by byte, and from both ends.
 -- Assumes nothing.
 use mathlib.Core.Path.{_≡_, refl, sym, ap, _∙_}
 use mathlib.Core.Bool.{Bool, true, false}
@@ -79,35 +79,3 @@ module _ (s : List ℕ) (a e : ℕ) where
       → take (a + e - a) (drop a s) ≡ trim blank s
   unfolding pick
   height-trimmed = part-trimmed blank s a e
-
--- ---- letters put into a call
-
-pub none-taken : (g : ℕ → ℕ) (s : List ℕ) → empty ≡ appended empty (map g (take 0 s))
-unfolding appended
-none-taken g s = refl
-
--- a call with a letter more
-pub letter-more : (g : ℕ → ℕ) (s : List ℕ) (i : ℕ) → i < length s → (c d : Call) → c ≡ appended empty (map g (take i s)) → d ≡ pushed c (g (getD s i 0))
-    → d ≡ appended empty (map g (take (i + 1) s))
-unfolding appended
-letter-more g s i h c d e f =
-    let t = take i s in
-    let x = getD s i 0 in
-    let next : take (i + 1) s ≡ t ++ (x ∷ []) = rw (add-one i) (take-suc s i 0 h) in
-    f
-    ∙ ap (λ (k : Call). pushed k (g x)) e
-    ∙ appended-append empty (map g t) (g x ∷ [])
-    ∙ ap (appended empty) (sym (map-append g t (x ∷ [])))
-    ∙ ap (λ (u : List ℕ). appended empty (map g u)) (sym next)
-
--- a call of a text trimmed
-pub trimmed-text : (g : ℕ → ℕ) (s t : List ℕ) (r : Call) → length s ≤ 16 → t ≡ trim white s → r ≡ appended empty (map g t)
-    → (textOf r ≡ map g (trim white s)) × (r .len ≤ length s) × (r ≡ appended empty (map g (trim white s)))
-trimmed-text g s t r n e f =
-    let u = map g (trim white s) in
-    let whole : r ≡ appended empty u = f ∙ ap (λ (x : List ℕ). appended empty (map g x)) e in
-    let few : length u ≤ length s = omega (arith, length-map (trim white s) g, trim-le white s) in (
-      ap textOf whole ∙ text-back u (omega arith),
-      omega (arith, ap (λ (x : Call). x .len) whole, len-appended empty u),
-      whole,
-    )

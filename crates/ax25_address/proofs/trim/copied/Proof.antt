@@ -10,7 +10,7 @@ use lib.Seq.{take-all}
 use denote.Ref.{now}
 use Rattle.ax25_token.specs.Call.{empty, pushed, appended}
 use Rattle.ax25_token.specs.Put.{casedOf}
-use Rattle.ax25_address.proofs.WhiteLaws.{none-taken, letter-more}
+use Rattle.ax25_address.proofs.LetterLaws.{none-taken, letter-more}
 use Rattle.ax25_address.proofs.trim.copied.Statement.{statement}
 use Rattle.ax25_address.proofs.trim.copied.Tie as tie
 

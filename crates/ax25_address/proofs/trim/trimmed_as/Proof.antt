@@ -4,7 +4,8 @@ use borrow.Author.Needs.{needs}
 use native.Mathlib.Omega.{arith}
 use denote.Ref.{now}
 use Rattle.ax25_token.specs.Put.{casedOf}
-use Rattle.ax25_address.proofs.WhiteLaws.{call-trimmed, trimmed-text}
+use Rattle.ax25_address.proofs.LetterLaws.{trimmed-text}
+use Rattle.ax25_address.proofs.WhiteLaws.{call-trimmed}
 use Rattle.ax25_address.proofs.trim.trimmed_as.Statement.{statement}
 use Rattle.ax25_address.proofs.trim.trimmed_as.Tie as tie
 
