@@ -1,12 +1,11 @@
 -- White space by ranges, trimming from the end byte by byte, and from both ends.
 -- Assumes nothing.
-use mathlib.Core.Path.{_≡_, refl, sym, ap, _∙_}
+use mathlib.Core.Path.{_≡_, sym, ap, _∙_}
 use mathlib.Core.Bool.{Bool, true, false}
-use mathlib.Core.List.{List, [], _∷_, _++_, map, map-append}
+use mathlib.Core.List.{List}
 use Prim.Native.Nat.{ℕ, suc, _+_, _-_, _≤_, _<_}
-use native.Mathlib.Numerals.{add-one}
 use native.Mathlib.Omega.{arith}
-use lib.ListN.{length, getD, take, drop, length-map}
+use lib.ListN.{length, getD, take, drop}
 use lib.Seq.{take-suc}
 use lib.Dec.{eqb}
 use borrow.Author.Tests.{le-leb, lt-leb, eq-eqb, ne-eqb}
@@ -14,10 +13,7 @@ use Rattle.laws.specs.Pick.{pick}
 use Rattle.laws.specs.Text.{between, trimFront, trimEnd, trim}
 use Rattle.laws.proofs.Cases.{by-le}
 use Rattle.laws.proofs.ListLaws.{from-place}
-use Rattle.laws.proofs.TrimLaws.{end-on, end-here, trim-le}
-use Rattle.ax25_token.specs.declared.Call.{Call}
-use Rattle.ax25_token.specs.Call.{textOf, empty, pushed, appended}
-use Rattle.ax25_token.proofs.CallLaws.{appended-append, len-appended, text-back}
+use Rattle.laws.proofs.TrimLaws.{end-on, end-here}
 use Rattle.ax25_address.specs.Address.{white, blank, whiteIn}
 
 -- ---- white space by ranges
