@@ -7,3 +7,4 @@ pub mod ParseLaws
 pub mod PlaceLaws
 pub mod RecordLaws
 pub mod SizeLaws
+pub mod WhiteLaws

@@ -4,3 +4,4 @@ pub mod alias;
 pub mod classify;
 pub mod parse;
 pub mod record;
+pub mod trim;
