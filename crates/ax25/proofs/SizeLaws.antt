@@ -49,7 +49,7 @@ module _ (l : ℕ) (two : 2 ≤ l) (high : l ≤ 9) where
   marked-size true b x e = rw (← Option·some-injective (false ∷ x) b e) (omega arith)
   marked-size false b x e = rw (← Option·some-injective x b e) (omega arith)
 
-  digis-size : (ap : Bool) (cs : List (List ℕ)) → AllBase l cs → (b : List Bool) → digiBits l ap cs ≡ some b → length b ≤ length cs * each + 1
+  pub digis-size : (ap : Bool) (cs : List (List ℕ)) → AllBase l cs → (b : List Bool) → digiBits l ap cs ≡ some b → length b ≤ length cs * each + 1
   unfolding digiBits pick
   digis-size ap [] h b e = rw (← Option·some-injective [] b e) (omega arith)
   digis-size ap (c ∷ cs) h b e =
