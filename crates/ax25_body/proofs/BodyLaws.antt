@@ -62,7 +62,7 @@ module _ (l : ℕ) (b : List Bool) where
 abbrev pub Others : AprsType → Type 0
 Others t = OneOf (1 ∷ 4 ∷ 5 ∷ []) (tagOf the-type t)
 
-abbrev Beside : ℕ → Type 0
+abbrev pub Beside : ℕ → Type 0
 Beside n = (n ≡ Text → ⊥) × (n ≡ Position → ⊥) × (n ≡ TimestampedPosition → ⊥)
 
 not-these : {P : Type 0} (n : ℕ) → OneOf (1 ∷ 4 ∷ 5 ∷ []) n → (n ≡ 0) ⊎ ((n ≡ 2) ⊎ (n ≡ 3)) → P
@@ -76,7 +76,7 @@ not-these n (inr (inr e)) (inl f) = absurd (omega (arith, e, f))
 not-these n (inr (inr e)) (inr (inl f)) = absurd (omega (arith, e, f))
 not-these n (inr (inr e)) (inr (inr f)) = absurd (omega (arith, e, f))
 
-other-number : (t : AprsType) → Others t → Beside (typeNumber t)
+pub other-number : (t : AprsType) → Others t → Beside (typeNumber t)
 other-number kind.Text h = not-these 0 h (inl refl)
 other-number kind.Binary h = (λ e. absurd (omega (arith, e)), λ e. absurd (omega (arith, e)), λ e. absurd (omega (arith, e)))
 other-number kind.Position h = not-these 2 h (inr (inl refl))
