@@ -3,7 +3,7 @@
 use mathlib.Core.Path.{_≡_, refl, ap, _∙_}
 use mathlib.Core.Bool.{Bool, false}
 use mathlib.Core.List.{List}
-use mathlib.Core.Option.{Option, none, some}
+use mathlib.Core.Option.{Option, none}
 use Prim.Native.Nat.{ℕ, _+_, _-_, _≤_, min}
 use native.Mathlib.Omega.{arith}
 use lib.ListN.{length, take, drop, drop-of-length-le}
@@ -25,7 +25,7 @@ use Rattle.ax25_aprs.specs.Put.{Does}
 use Rattle.ax25_aprs.specs.Text.{textBits}
 use Rattle.ax25_aprs.specs.Third.{callPart}
 use Rattle.ax25_aprs.specs.declared.part.Part.{Part}
-use Rattle.ax25_aprs.specs.declared.part.Part.the-variants.{Next, Refused}
+use Rattle.ax25_aprs.specs.declared.part.Part.the-variants.{Refused}
 use Rattle.ax25_aprs.proofs.PartLaws.{does-then}
 use Rattle.ax25_aprs.proofs.Sizes.{part-most}
 use Rattle.ax25_aprs.proofs.ValueLaws.{take-min}

@@ -5,7 +5,6 @@ use mathlib.Core.Bool.{Bool, true, false, _&&_}
 use mathlib.Core.List.{List, [], _∷_}
 use mathlib.Core.Option.{none}
 use Prim.Native.Nat.{ℕ, zero, suc, _+_, _-_, _≤_, _<_}
-use native.Mathlib.Numerals.{add-one}
 use native.Mathlib.Omega.{arith}
 use lib.ListN.{length, getD, take, drop}
 use lib.Seq.{drop-drop}
@@ -21,7 +20,7 @@ use Rattle.ax25_address.specs.Types.{Text, Position, TimestampedPosition, Messa
 use Rattle.ax25_aprs.specs.Body.{callOf, bodyBits}
 use Rattle.ax25_aprs.specs.Coded.{_then_, orRefused}
 use Rattle.ax25_aprs.specs.Put.{Does, spanIn, fieldIn, Within}
-use Rattle.ax25_aprs.specs.Third.{Field, ended, full, short, collectOf, callPart, callField, innerBits, lastField, pathField, thirdBits, innerType}
+use Rattle.ax25_aprs.specs.Third.{Field, short, collectOf, callPart, callField, innerBits, lastField, pathField, thirdBits, innerType}
 use Rattle.ax25_aprs.specs.declared.part.Part.{Part}
 use Rattle.ax25_aprs.specs.declared.third.Span.{Span}
 use Rattle.ax25_aprs.specs.declared.third.Collected.{Collected}

@@ -4,7 +4,7 @@ use native.Mathlib.Omega.{arith}
 use mathlib.Core.Path.{refl}
 use mathlib.Core.Bool.{false}
 use Prim.Native.Nat.{_-_}
-use lib.ListN.{length, take, drop, length-take, length-drop}
+use lib.ListN.{take, drop, length-take, length-drop}
 use denote.Ref.{now}
 use Rattle.laws.specs.Bits.{unpack}
 use Rattle.ax25_token.specs.Token.{tokenBits}

@@ -3,7 +3,7 @@
 use native.Mathlib.Omega.{arith}
 use mathlib.Core.Path.{refl}
 use Prim.Native.Nat.{_+_}
-use lib.ListN.{drop, length-drop}
+use lib.ListN.{length-drop}
 use denote.Ref.{now}
 use Rattle.ax25_body.proofs.CodeLaws.{rest-min}
 use Rattle.ax25_body.proofs.PieceLaws.{coded, uncoded, coded-near, does-full, does-ended}

@@ -1,6 +1,5 @@
 -- `ax25_body::third::path_encode` meets its contract.
 -- Assumes nothing.
-use native.Mathlib.Omega.{arith}
 use mathlib.Core.Path.{refl}
 use denote.Ref.{now}
 use Rattle.laws.proofs.ListLaws.{from-place}
