@@ -17,7 +17,7 @@ use Rattle.ax25_token.specs.declared.encode.Put.{Put}
 use Rattle.ax25_token.specs.declared.encode.Put.the-variants.{Next, Bad}
 use Rattle.ax25_token.specs.Put.{casedOf, Puts}
 use Rattle.ax25_token.specs.Token.{tokenBits}
-use Rattle.ax25_token.proofs.PutLaws.{map-up}
+use Rattle.ax25_token.proofs.PutLaws.{gave, bad, puts, puts-none, map-up}
 use Rattle.ax25_address.specs.Address.{addrCall, heardIn}
 use Rattle.ax25_address.specs.Parse.{Parsed, fieldsOf, parseOf, isAp, typeOf, aliasOf}
 use Rattle.ax25_address.specs.Record.{Seen}
@@ -25,7 +25,7 @@ use Rattle.ax25_address.proofs.AliasLaws.{fields-count}
 use Rattle.ax25_address.proofs.RecordLaws.{Known}
 use Rattle.ax25_address.proofs.SizeLaws.{parse-size}
 use Rattle.ax25.specs.Encode.{typeWidth, digiBits, headBits}
-use Rattle.ax25.proofs.CoderLaws.{gave, bad, puts, puts-none, head-some, head-dest, head-src, head-digis}
+use Rattle.ax25.proofs.CoderLaws.{head-some, head-dest, head-src, head-digis}
 use Rattle.ax25.proofs.SizeLaws.{digis-size}
 
 -- ---- the parts of a frame as the code reads them
