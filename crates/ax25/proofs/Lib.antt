@@ -2,7 +2,8 @@ pub mod CoderLaws
 pub mod Examples
 pub mod FrameBack
 pub mod HeadBack
-pub mod HeadLaws
+pub mod HeadCode
+pub mod InfoLaws
 pub mod PackLaws
 pub mod PlainLaws
 pub mod SizeLaws

@@ -1,3 +1,4 @@
+pub mod Codes
 pub mod Decode
 pub mod Encode
 pub mod Plain

@@ -11,7 +11,7 @@ use Rattle.laws.proofs.ListLaws.{from-place}
 use Rattle.ax25_address.specs.Record.{recordOf}
 use Rattle.ax25_address.proofs.RecordLaws.{known}
 use Rattle.ax25.proofs.CoderLaws.{address-room}
-use Rattle.ax25.proofs.HeadLaws.{from, parts-of, parts-are, heard-room, digis-room, bad-dest, bad-src, bad-digis, head-wrote}
+use Rattle.ax25.proofs.HeadCode.{from, parts-of, parts-are, heard-room, digis-room, bad-dest, bad-src, bad-digis, head-wrote}
 use Rattle.ax25.proofs.encode.put_head.Statement.{statement}
 use Rattle.ax25.proofs.encode.put_head.Tie as tie
 
