@@ -4,4 +4,5 @@ pub mod FrameBack
 pub mod HeadBack
 pub mod PackLaws
 pub mod PlainLaws
+pub mod ReaderLaws
 pub mod SizeLaws
