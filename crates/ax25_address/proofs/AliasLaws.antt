@@ -6,7 +6,7 @@ use mathlib.Core.List.{List, [], _∷_, _++_, map}
 use Prim.Native.Nat.{ℕ, zero, suc, _+_, _-_, _*_, _≤_, _<_}
 use native.Mathlib.Nat.{suc-mul}
 use native.Mathlib.Omega.{arith}
-use lib.ListN.{length, getD, take, drop, length-map}
+use lib.ListN.{length, getD, drop, length-map}
 use lib.Seq.{drop-cons}
 use lib.Dec.{eqb, leb}
 use borrow.Author.Tests.{eqb-true, leb-true}
@@ -56,13 +56,6 @@ call-text t x y z c d e r ec n ed ee er =
     let len : r .len ≡ c .len + 3 = ap (λ (k : Call). k .len) whole ∙ len-appended c s in
     let size : length (t ++ s) ≤ 16 = omega (arith, len, n, len-appended empty (t ++ s), ap (λ (k : Call). k .len) joined) in
     ap textOf joined ∙ text-back (t ++ s) size
-
--- `&bytes[0..len]`
-pub text-front : (c : Call) → take (c .len - 0) (c .bytes) ≡ textOf c
-unfolding textOf
-text-front c =
-    let z : c .len - 0 ≡ c .len = omega arith in
-    ap (λ (n : ℕ). take n (c .bytes)) z
 
 -- ---- the calls of n fields
 

@@ -7,3 +7,4 @@ pub mod LetterLaws
 pub mod ParseLaws
 pub mod PlaceLaws
 pub mod SizeLaws
+pub mod WhiteLaws

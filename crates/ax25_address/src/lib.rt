@@ -4,3 +4,4 @@ pub mod alias;
 pub mod call_bytes;
 pub mod classify;
 pub mod parse;
+pub mod trim;

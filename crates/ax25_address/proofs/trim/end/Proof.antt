@@ -1,4 +1,4 @@
--- `ax25_aprs::height::end` meets its contract. The bytes passed, from the end, are blanks.
+-- `ax25_address::trim::end` meets its contract. The bytes passed, from the end, are white space.
 -- Assumes nothing.
 use native.Mathlib.Omega.{arith}
 use borrow.Author.Needs.{needs}
@@ -10,37 +10,38 @@ use lib.Seq.{take-length}
 use borrow.Author.Tests.{not-true, not-false}
 use denote.Ref.{now}
 use Rattle.laws.specs.Text.{trimEnd}
-use Rattle.ax25_aprs.specs.Text.{blank}
-use Rattle.ax25_aprs.proofs.HeightLaws.{right-more, right-here}
-use Rattle.ax25_aprs.proofs.height.end.Statement.{statement}
-use Rattle.ax25_aprs.proofs.height.end.Tie as tie
+use Rattle.ax25_address.specs.Address.{whiteIn}
+use Rattle.ax25_address.proofs.WhiteLaws.{right-more, right-here}
+use Rattle.ax25_address.proofs.trim.end.Statement.{statement}
+use Rattle.ax25_address.proofs.trim.end.Tie as tie
 
 abbrev Inv-loop : tie.InvT-loop
-Inv-loop s i₀ i = (i ≤ length s) × (trimEnd blank (take i s) ≡ trimEnd blank s)
+Inv-loop s call i₀ i = (i ≤ length s) × (trimEnd (whiteIn call) (take i s) ≡ trimEnd (whiteIn call) s)
 
 abbrev μ-loop : tie.MeasureT-loop
-μ-loop s i₀ i = i
+μ-loop s call i₀ i = i
 
 loop-holds : tie.Need-loop-holds Inv-loop μ-loop
-loop-holds c = (search needs, ap (trimEnd blank) (take-length _))
+loop-holds c = (search needs, ap (trimEnd (whiteIn (c .before .args .call))) (take-length _))
 
-sub-is-blank : tie.Need-sub-is-blank Inv-loop μ-loop
-sub-is-blank c = search needs
+sub-is-white : tie.Need-sub-is-white Inv-loop μ-loop
+sub-is-white c = search needs
 
-shared-slice-read-is-blank : tie.Need-shared-slice-read-is-blank Inv-loop μ-loop
-shared-slice-read-is-blank c = search needs
+shared-slice-read-is-white : tie.Need-shared-slice-read-is-white Inv-loop μ-loop
+shared-slice-read-is-white c = search needs
 
-is-blank-requires : tie.Need-is-blank-requires Inv-loop μ-loop
-is-blank-requires c κs = search needs
+is-white-requires : tie.Need-is-white-requires Inv-loop μ-loop
+is-white-requires c κs = search needs
 
 returns : tie.Need-returns Inv-loop μ-loop
 returns c =
     let at-loop = c .before .before .before .before in
     let s = now (at-loop .before .before .args .s) in
+    let w = whiteIn (at-loop .before .before .args .call) in
     let i = at-loop .loop .i in
     let k : suc (i - 1) ≡ i = omega arith in
-    let no : blank (getD s (i - 1) 0) ≡ false = sym (c .before .is-blank .ensures) ∙ not-true _ (c .if1 .taken) in
-    (search needs, sym (rw k at (right-here blank s (i - 1) (omega arith) no)) ∙ at-loop .loop .inv .1)
+    let no : w (getD s (i - 1) 0) ≡ false = sym (c .before .is-white .ensures) ∙ not-true _ (c .if1 .taken) in
+    (search needs, sym (rw k at (right-here w s (i - 1) (omega arith) no)) ∙ at-loop .loop .inv .1)
 
 sub-i : tie.Need-sub-i Inv-loop μ-loop
 sub-i c = search needs
@@ -52,10 +53,11 @@ loop-again : tie.Need-loop-again Inv-loop μ-loop
 loop-again c =
     let at-loop = c .before .before .before .before in
     let s = now (at-loop .before .before .args .s) in
+    let w = whiteIn (at-loop .before .before .args .call) in
     let i = at-loop .loop .i in
     let k : suc (i - 1) ≡ i = omega arith in
-    let yes : blank (getD s (i - 1) 0) ≡ true = sym (c .before .is-blank .ensures) ∙ not-false _ (c .if1 .left) in
-    (search needs, sym (rw k at (right-more blank s (i - 1) (omega arith) yes)) ∙ at-loop .loop .inv .1)
+    let yes : w (getD s (i - 1) 0) ≡ true = sym (c .before .is-white .ensures) ∙ not-false _ (c .if1 .left) in
+    (search needs, sym (rw k at (right-more w s (i - 1) (omega arith) yes)) ∙ at-loop .loop .inv .1)
 
 returns-2 : tie.Need-returns-2 Inv-loop μ-loop
 unfolding trimEnd
@@ -71,9 +73,9 @@ end-spec =
     Inv-loop
     μ-loop
     loop-holds
-    sub-is-blank
-    shared-slice-read-is-blank
-    is-blank-requires
+    sub-is-white
+    shared-slice-read-is-white
+    is-white-requires
     returns
     sub-i
     loop-less

@@ -1,4 +1,4 @@
--- `ax25_aprs::height::front` meets its contract. The bytes passed are blanks.
+-- `ax25_address::trim::front` meets its contract. The bytes passed are white space.
 -- Assumes nothing.
 use native.Mathlib.Omega.{arith}
 use borrow.Author.Needs.{needs}
@@ -10,32 +10,33 @@ use borrow.Author.Tests.{not-true, not-false}
 use denote.Ref.{now}
 use Rattle.laws.specs.Text.{trimFront}
 use Rattle.laws.proofs.TrimLaws.{front-on, front-here}
-use Rattle.ax25_aprs.specs.Text.{blank}
-use Rattle.ax25_aprs.proofs.height.front.Statement.{statement}
-use Rattle.ax25_aprs.proofs.height.front.Tie as tie
+use Rattle.ax25_address.specs.Address.{whiteIn}
+use Rattle.ax25_address.proofs.trim.front.Statement.{statement}
+use Rattle.ax25_address.proofs.trim.front.Tie as tie
 
 abbrev Inv-loop : tie.InvT-loop
-Inv-loop s i₀ i = (i ≤ length s) × (trimFront blank (drop i s) ≡ trimFront blank s)
+Inv-loop s call i₀ i = (i ≤ length s) × (trimFront (whiteIn call) (drop i s) ≡ trimFront (whiteIn call) s)
 
 abbrev μ-loop : tie.MeasureT-loop
-μ-loop s i₀ i = length s - i
+μ-loop s call i₀ i = length s - i
 
 loop-holds : tie.Need-loop-holds Inv-loop μ-loop
 loop-holds c = (search needs, refl)
 
-shared-slice-read-is-blank : tie.Need-shared-slice-read-is-blank Inv-loop μ-loop
-shared-slice-read-is-blank c = search needs
+shared-slice-read-is-white : tie.Need-shared-slice-read-is-white Inv-loop μ-loop
+shared-slice-read-is-white c = search needs
 
-is-blank-requires : tie.Need-is-blank-requires Inv-loop μ-loop
-is-blank-requires c κs = search needs
+is-white-requires : tie.Need-is-white-requires Inv-loop μ-loop
+is-white-requires c κs = search needs
 
 returns : tie.Need-returns Inv-loop μ-loop
 returns c =
     let at-loop = c .before .before .before .before in
     let s = now (at-loop .before .before .args .s) in
+    let w = whiteIn (at-loop .before .before .args .call) in
     let i = at-loop .loop .i in
-    let no : blank (getD s i 0) ≡ false = sym (c .before .is-blank .ensures) ∙ not-true _ (c .if1 .taken) in
-    (search needs, sym (front-here blank s i (omega arith) no) ∙ at-loop .loop .inv .1)
+    let no : w (getD s i 0) ≡ false = sym (c .before .is-white .ensures) ∙ not-true _ (c .if1 .taken) in
+    (search needs, sym (front-here w s i (omega arith) no) ∙ at-loop .loop .inv .1)
 
 add-i : tie.Need-add-i Inv-loop μ-loop
 add-i c = search needs
@@ -47,9 +48,10 @@ loop-again : tie.Need-loop-again Inv-loop μ-loop
 loop-again c =
     let at-loop = c .before .before .before .before in
     let s = now (at-loop .before .before .args .s) in
+    let w = whiteIn (at-loop .before .before .args .call) in
     let i = at-loop .loop .i in
-    let yes : blank (getD s i 0) ≡ true = sym (c .before .is-blank .ensures) ∙ not-false _ (c .if1 .left) in
-    (search needs, sym (front-on blank s i (omega arith) yes) ∙ at-loop .loop .inv .1)
+    let yes : w (getD s i 0) ≡ true = sym (c .before .is-white .ensures) ∙ not-false _ (c .if1 .left) in
+    (search needs, sym (front-on w s i (omega arith) yes) ∙ at-loop .loop .inv .1)
 
 returns-2 : tie.Need-returns-2 Inv-loop μ-loop
 unfolding trimFront
@@ -65,8 +67,8 @@ front-spec =
     Inv-loop
     μ-loop
     loop-holds
-    shared-slice-read-is-blank
-    is-blank-requires
+    shared-slice-read-is-white
+    is-white-requires
     returns
     add-i
     loop-less
