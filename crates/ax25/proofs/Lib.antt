@@ -1,7 +1,9 @@
+pub mod BodyLaws
 pub mod CoderLaws
 pub mod Examples
 pub mod FrameBack
 pub mod HeadBack
+pub mod HeadLaws
 pub mod PackLaws
 pub mod PlainLaws
 pub mod ReaderLaws

@@ -2,19 +2,18 @@
 -- Assumes nothing.
 use mathlib.Core.Path.{_≡_, refl, sym, ap, ap₂, subst, _∙_}
 use mathlib.Core.Bool.{Bool, true, false}
-use mathlib.Core.List.{List, [], _∷_, _++_, map}
+use mathlib.Core.List.{List, [], _∷_, _++_}
 use mathlib.Core.Option.{Option, none, some, Option·none-ne-some, Option·some-injective}
-use Prim.Native.Nat.{ℕ, zero, suc, _+_, _-_, _≤_, _<_, zero-le, suc-le-suc}
+use Prim.Native.Nat.{ℕ, zero, suc, _+_, _-_, _≤_, _<_}
 use native.Mathlib.Nat.{not-suc-le-zero, le-of-suc-le-suc}
-use native.Mathlib.Numerals.{add-one}
 use native.Mathlib.Omega.{arith}
 use lib.Bits.{bitOr}
-use lib.Dec.{eqb, leb}
+use lib.Dec.{eqb}
 use lib.ListN.{length, take, drop, getD, set, length-append, length-set}
 use lib.Seq.{take-nil, drop-drop, getD-take, getD-drop}
 use borrow.Author.Tests.{ne-eqb}
 use Rattle.laws.specs.Bits.{num, valueOf}
-use Rattle.laws.specs.Pick.{pick, _>>=_}
+use Rattle.laws.specs.Pick.{pick}
 use Rattle.laws.specs.Text.{ascii, starts}
 use Rattle.laws.specs.Wrote.{Wrote}
 use Rattle.laws.proofs.Cases.{from-some}
@@ -60,6 +59,10 @@ one-more f x n e = length-append f (x ∷ []) ∙ ap (λ (k : ℕ). k + 1) e
 length-field : (l : ℕ) (c : List ℕ) → length (callBytes l c) ≡ l + 1
 unfolding callBytes
 length-field l c = one-more (fieldLetters l (baseOf c)) _ l (length-letters l (baseOf c))
+
+pub field-size : (l : ℕ) (h last : Bool) (c : List ℕ) → length (fieldOf l h last c) ≡ l + 1
+unfolding fieldOf marked
+field-size l h last c = length-set (callBytes l c) l (bitOr (getD (callBytes l c) l 0) (pick h 0x80 0 + pick last 0x01 0)) ∙ length-field l c
 
 -- the next place is l + 1 on
 pub bytes-next : (l : ℕ) (c : List ℕ) (m : ℕ) {out e : List ℕ} {to q : ℕ} → Wrote out to (set (callBytes l c) l (bitOr (getD (callBytes l c) l 0) m)) e q → q ≡ to + (l + 1)
@@ -133,7 +136,7 @@ last-is (c ∷ cs) m e = ne-eqb (suc m) 1 (omega (arith, e))
 
 -- ---- digipeaters by tokens
 
-tokens-count : (l m : ℕ) (b : List Bool) (p : List (List ℕ) × List Bool) → readTokens l m b ≡ some p → length (p .0) ≡ m
+pub tokens-count : (l m : ℕ) (b : List Bool) (p : List (List ℕ) × List Bool) → readTokens l m b ≡ some p → length (p .0) ≡ m
 unfolding readTokens
 tokens-count l zero b p e = rw (← Option·some-injective ([], b) p e)
 tokens-count l (suc m) b p e =
@@ -179,7 +182,7 @@ module _ (l n k : ℕ) (b : List Bool) where
 
 -- ---- digipeaters by alias
 
-alias-count : (a : List ℕ) (k m : ℕ) → length (aliasCalls a k m) ≡ m
+pub alias-count : (a : List ℕ) (k m : ℕ) → length (aliasCalls a k m) ≡ m
 unfolding aliasCalls
 alias-count a k zero = refl
 alias-count a k (suc m) = ap suc (alias-count a (suc k) m)

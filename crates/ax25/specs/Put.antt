@@ -1,10 +1,10 @@
 -- What the readers of a frame's parts answer and leave.
 -- Assumes nothing.
 use mathlib.Core.Path.{_≡_}
-use mathlib.Core.Bool.{Bool, true, false}
-use mathlib.Core.List.{List, [], _∷_, _++_}
+use mathlib.Core.Bool.{Bool, false}
+use mathlib.Core.List.{List, _∷_, _++_}
 use mathlib.Core.Option.{Option, none, some}
-use Prim.Native.Nat.{ℕ, zero, suc, _≤_}
+use Prim.Native.Nat.{ℕ, _≤_}
 use lib.ListN.{length, take, drop}
 use Rattle.laws.specs.Pick.{pick, _>>=_}
 use Rattle.laws.specs.Text.{ascii, starts}
@@ -64,6 +64,11 @@ readType ap b = do
   (t, r) ← takeBits (typeWidth ap) b
   pick (known t) (some (t, r)) none
 
+-- the number of a type, and the position
+unfoldable pub typeIs : Typed → Option (ℕ × ℕ)
+typeIs (typed.Is t p) = some (typeNumber t, p)
+typeIs typed.Nothing = none
+
 -- the answer of the type's reader: the type, and a position that the bits reach
 abbrev pub Types : List Bool → Option (ℕ × List Bool) → Typed → Type 0
 Types b o (typed.Is t p) = (o ≡ some (typeNumber t, drop p b)) × (p ≤ length b)
@@ -74,6 +79,7 @@ pub record HeadRead (l : ℕ) (b : List Bool) (o : Option (decode.Head × List B
   pub head : decode.Head
   pub is : o ≡ some (head, drop p b)
   pub reaches : p ≤ length b
+  pub few : length (head .digis) ≤ 8
   pub kind : head .typ ≡ typeNumber typ
   pub wrote : Wrote out 0 (addresses l (head .dest ∷ head .src ∷ head .digis) (false ∷ false ∷ head .heard)) e q
 

@@ -1,24 +1,30 @@
 // A message as a frame: `decode` of the source. Addresses are written as they are read; where nothing can be read, nothing is said of the output.
 ghost use mathlib.Core.Path.{_≡_};
-ghost use mathlib.Core.Bool.{true, false};
+ghost use mathlib.Core.Bool.{false};
 ghost use mathlib.Core.List.{[], _∷_};
+ghost use mathlib.Core.Option.{none, some};
 ghost use Prim.Native.Nat.{_+_, _*_, _/_, _^_, _≤_, _<_};
 ghost use lib.ListN.{length, getD, drop};
-ghost use lib.Dec.{eqb};
 ghost use Rattle.laws.specs.Bits.{odd, unpack};
 ghost use Rattle.laws.specs.Pick.{pick};
 ghost use Rattle.laws.specs.Wrote.{Wrote};
 ghost use Rattle.ax25_token.specs.Token.{readToken};
 ghost use Rattle.ax25_address.specs.Parse.{aliases, aliasCalls};
-ghost use Rattle.ax25.specs.Decode.{digiCount, readTokens, readAlias, readAliased, readDigis, readHead};
-ghost use Rattle.ax25.specs.Put.{ReadsTo, fieldOf, apIn, readEnds, endsBytes, digiBytes, readType, Types, Heads};
+ghost use Rattle.ax25_address.specs.Kind.{typeNumber};
+ghost use Rattle.ax25_aprs.specs.Put.{Reads};
+ghost use Rattle.ax25.specs.Decode.{digiCount, known, bytesIn, readTokens, readAlias, readAliased, readDigis, readHead, readInfo, readFrame};
+ghost use Rattle.ax25.specs.Encode.{typeWidth};
+ghost use Rattle.ax25.specs.Put.{ReadsTo, fieldOf, apIn, readEnds, endsBytes, digiBytes, typeIs, readType, Types, Heads};
 use ax25_address::alias::alias_call;
 use ax25_address::call_bytes::call_bytes;
 use ax25_address::classify::AprsType;
 use ax25_aprs::field;
+use ax25_body::body::aprs_decode;
+use ax25_body::third::third_decode;
 use ax25_token::Token;
 use ax25_token::encode::call_starts;
 use ax25_token::token_decode;
+use bits::read::Got;
 use bits::read::Taken;
 
 // The next position and the next place, or nothing to read.
@@ -177,4 +183,124 @@ fn read_digis(s: &[u8], at: usize, l: usize, ap: bool, n: usize, out: &mut [u8],
         return read_aliased(s, at, l, n, out, to);
     }
     read_tokens(s, at, l, n, 0, out, to)
+}
+
+// The type of a code.
+fn from_code(v: u64, at: usize) -> Typed
+    ensures { λ r. ⌜ typeIs r ≡ pick (known v) (some (v, at)) none ⌝ }
+{
+    match v {
+        0 => Typed::Is(AprsType::Text, at),
+        1 => Typed::Is(AprsType::Binary, at),
+        2 => Typed::Is(AprsType::Position, at),
+        3 => Typed::Is(AprsType::TimestampedPosition, at),
+        4 => Typed::Is(AprsType::Message, at),
+        6 => Typed::Is(AprsType::ThirdParty, at),
+        _ => Typed::Nothing,
+    }
+}
+
+// How many bits the type has; ap: the destination starts with AP.
+fn type_width(ap: bool) -> usize
+    ensures { λ r. ⌜ (r ≡ typeWidth ap) × (0 < r) × (r ≤ 3) ⌝ }
+{
+    if ap {
+        return 3;
+    }
+    1
+}
+
+// The type at a position; ap: the destination starts with AP.
+fn read_type(s: &[u8], at: usize, ap: bool) -> Typed
+    requires { ⌜ length (now s) < 5000 ⌝ }
+    ensures { λ r. ⌜ Types (unpack (now (s .entry))) (readType ap (drop at (unpack (now (s .entry))))) r ⌝ }
+{
+    let Taken::Bits(v, p) = bits::read::take(s, at, type_width(ap)) else {
+        return Typed::Nothing;
+    };
+    from_code(v, p)
+}
+
+// What stands before the body, for n digipeaters: H bits, destination, source, digipeaters, type.
+fn read_head(s: &[u8], l: usize, n: usize, out: &mut [u8]) -> Head
+    requires { ⌜ (length (now s) < 5000) × (2 ≤ l) × (l ≤ 7) × (n ≤ 8) ⌝ }
+    ensures { λ r. ⌜ Heads l (unpack (now (s .entry))) (readHead l n (unpack (now (s .entry)))) (now (out .entry)) (now (out .exit)) r ⌝ }
+{
+    if s.len() * 8 < n {
+        return Head::Nothing;
+    }
+    let ap = is_ap(s, n, l);
+    let Read::Next(p, q) = read_ends(s, n, l, n == 0, out) else {
+        return Head::Nothing;
+    };
+    let Read::Next(u, v) = read_digis(s, p, l, ap, n, out, q) else {
+        return Head::Nothing;
+    };
+    let Typed::Is(typ, e) = read_type(s, u, ap) else {
+        return Head::Nothing;
+    };
+    Head::Is(e, v, typ)
+}
+
+// How many digipeaters a header names.
+fn digi_count(header: u8) -> usize
+    ensures { λ r. ⌜ (r ≡ digiCount header) × (r ≤ 8) ⌝ }
+{
+    if header / 8 % 2 == 1 {
+        return (header % 8) as usize + 1;
+    }
+    0
+}
+
+// Control 03 and PID F0, where the header has bit 40. The next place.
+fn put_ui(header: u8, out: &mut [u8], to: usize) -> usize
+    requires { ⌜ to < 2 ^ 20 ⌝ }
+    ensures { λ r. ⌜ Wrote (now (out .entry)) to (pick (odd (header / 64)) (0x03 ∷ 0xF0 ∷ []) []) (now (out .exit)) r ⌝ }
+    ensures { λ r. ⌜ r ≤ to + 2 ⌝ }
+{
+    if header / 64 % 2 == 1 {
+        let p = bits::write::byte(out, to, 0x03);
+        return bits::write::byte(out, p, 0xF0);
+    }
+    to
+}
+
+// Whole bytes from a position on. The next place.
+fn read_bytes(s: &[u8], at: usize, out: &mut [u8], to: usize) -> usize
+    requires { ⌜ (length (now s) < 5000) × (at ≤ length (now s) * 8) × (to < 2 ^ 20) ⌝ }
+    ensures { λ r. ⌜ Wrote (now (out .entry)) to (bytesIn (drop at (unpack (now (s .entry))))) (now (out .exit)) r ⌝ }
+{
+    let n = bits::read::remaining(s, at) / 8;
+    let mut next = to;
+    let mut i = 0;
+    while i < n {
+        next = bits::write::byte(out, next, field::narrow(field::value(s, at + i * 8, 8)));
+        i += 1;
+    }
+    next
+}
+
+// The body of a type, from a position on; where there is none, nothing is said of the output.
+fn read_info(s: &[u8], at: usize, l: usize, typ: AprsType, out: &mut [u8], to: usize) -> Got
+    requires { ⌜ (length (now s) < 5000) × (at ≤ length (now s) * 8) × (2 ≤ l) × (l ≤ 7) × (to < 2 ^ 20) ⌝ }
+    ensures { λ r. ⌜ Reads (readInfo l (typeNumber typ) (unpack (now (s .entry))) (drop at (unpack (now (s .entry))))) (now (out .entry)) to (now (out .exit)) r ⌝ }
+{
+    match typ {
+        AprsType::Text => bits::read::text7(s, at, out, to),
+        AprsType::Binary => Got::Next(read_bytes(s, at, out, to)),
+        AprsType::ThirdParty => third_decode(s, at, l, out, to),
+        _ => aprs_decode(typ, s, at, l, out, to),
+    }
+}
+
+// The frame of a message whose header byte is given and whose other bytes are s, for calls of l letters. What lies past the end of out is not written.
+pub fn decode(s: &[u8], header: u8, l: usize, out: &mut [u8]) -> Got
+    requires { ⌜ (length (now s) < 5000) × (2 ≤ l) × (l ≤ 7) ⌝ }
+    ensures { λ r. ⌜ Reads (readFrame l header (unpack (now (s .entry)))) (now (out .entry)) 0 (now (out .exit)) r ⌝ }
+{
+    let Head::Is(p, q, typ) = read_head(s, l, digi_count(header), out) else {
+        return Got::Nothing;
+    };
+    let behind = put_ui(header, out, q);
+    read_info(s, p, l, typ, out, behind)
 }

@@ -1,6 +1,5 @@
 -- `ax25::decode::mark` meets its contract.
 -- Assumes nothing.
-use mathlib.Core.Path.{_≡_}
 use Rattle.laws.proofs.Cases.{pick-true, pick-false}
 use Rattle.ax25.proofs.ReaderLaws.{marks}
 use Rattle.ax25.proofs.decode.mark.Statement.{statement}

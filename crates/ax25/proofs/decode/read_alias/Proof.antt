@@ -1,13 +1,11 @@
 -- `ax25::decode::read_alias` meets its contract.
 -- Assumes nothing.
-use mathlib.Core.Path.{_≡_, sym, _∙_}
+use mathlib.Core.Path.{sym, _∙_}
 use native.Mathlib.Omega.{arith}
 use lib.ListN.{drop}
 use denote.Ref.{now}
 use Rattle.laws.specs.Bits.{unpack}
-use Rattle.bits.specs.declared.read.Taken.the-variants.{Short}
 use Rattle.bits.proofs.TakenLaws.{told-short, told-bits}
-use Rattle.ax25_token.proofs.CallLaws.{takenAt}
 use Rattle.ax25.proofs.ReaderLaws.{alias-short, alias-zero, alias-past, alias-read}
 use borrow.Author.Needs.{needs}
 use Rattle.ax25.proofs.decode.read_alias.Statement.{statement}

@@ -1,12 +1,10 @@
 -- `ax25::decode::read_aliased` meets its contract.
 -- Assumes nothing.
-use mathlib.Core.Path.{_≡_, sym, _∙_}
-use mathlib.Core.List.{List}
+use mathlib.Core.Path.{sym, _∙_}
 use lib.ListN.{drop}
 use denote.Ref.{now}
 use Rattle.laws.specs.Bits.{unpack}
 use Rattle.bits.proofs.TakenLaws.{told-short, told-bits}
-use Rattle.ax25.specs.Decode.{readAliased, readAlias, readTokens}
 use Rattle.ax25.specs.Put.{digiBytes}
 use Rattle.ax25.proofs.ReaderLaws.{reads-as, aliased-short, aliased-yes, aliased-no}
 use borrow.Author.Needs.{needs}

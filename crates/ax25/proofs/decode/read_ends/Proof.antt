@@ -1,7 +1,6 @@
 -- `ax25::decode::read_ends` meets its contract.
 -- Assumes nothing.
 use mathlib.Core.Bool.{false}
-use Prim.Native.Nat.{_^_, _<_}
 use native.Mathlib.Omega.{arith}
 use lib.ListN.{drop}
 use denote.Ref.{now}

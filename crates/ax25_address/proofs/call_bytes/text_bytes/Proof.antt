@@ -1,6 +1,5 @@
 -- `ax25_address::call_bytes::text_bytes` meets its contract.
 -- Assumes nothing.
-use mathlib.Core.Path.{_≡_}
 use native.Mathlib.Omega.{arith}
 use denote.Ref.{now}
 use Rattle.ax25_token.proofs.Hyphen.{base-short}
