@@ -1,20 +1,19 @@
 -- Bodies by cases, for the code.
 -- Assumes nothing.
-use mathlib.Core.Path.{_≡_, refl, ap, _∙_}
-use mathlib.Core.Logic.{_⊎_, inl, inr}
+use mathlib.Core.Path.{_≡_, ap, _∙_}
+use mathlib.Core.Logic.{inl, inr}
 use mathlib.Core.Bool.{Bool, false}
 use mathlib.Core.List.{List, [], _∷_, _++_, append-nil}
 use mathlib.Core.Option.{none, some}
-use Prim.Native.Nat.{ℕ, zero, suc, _-_, _≤_, _<_}
+use Prim.Native.Nat.{ℕ, zero, suc, _-_, _≤_}
 use native.Mathlib.Omega.{arith}
-use lib.ListN.{length, take, drop, replicate, length-append, length-replicate}
+use lib.ListN.{length, take, drop, replicate, length-replicate}
 use lib.Seq.{take-all}
-use borrow.Author.Tests.{eq-eqb, ne-eqb}
+use borrow.Author.Tests.{ne-eqb}
 use denote.Enum.Declared.{tagOf}
 use types.Run.{OneOf}
-use Rattle.laws.specs.Pick.{pick, _>>=_}
+use Rattle.laws.specs.Pick.{pick}
 use Rattle.laws.specs.Text.{filled}
-use Rattle.refusals.specs.Outcome.{Outcome}
 use Rattle.ax25_token.specs.Token.{readToken}
 use Rattle.ax25_address.specs.declared.classify.AprsType.{AprsType}
 use Rattle.ax25_address.specs.declared.classify.AprsType.the-variants as kind
@@ -62,27 +61,22 @@ module _ (l : ℕ) (b : List Bool) where
 abbrev pub Others : AprsType → Type 0
 Others t = OneOf (1 ∷ 4 ∷ 5 ∷ []) (tagOf the-type t)
 
-abbrev Beside : ℕ → Type 0
+abbrev pub Beside : ℕ → Type 0
 Beside n = (n ≡ Text → ⊥) × (n ≡ Position → ⊥) × (n ≡ TimestampedPosition → ⊥)
 
-not-these : {P : Type 0} (n : ℕ) → OneOf (1 ∷ 4 ∷ 5 ∷ []) n → (n ≡ 0) ⊎ ((n ≡ 2) ⊎ (n ≡ 3)) → P
-not-these n (inl e) (inl f) = absurd (omega (arith, e, f))
-not-these n (inl e) (inr (inl f)) = absurd (omega (arith, e, f))
-not-these n (inl e) (inr (inr f)) = absurd (omega (arith, e, f))
-not-these n (inr (inl e)) (inl f) = absurd (omega (arith, e, f))
-not-these n (inr (inl e)) (inr (inl f)) = absurd (omega (arith, e, f))
-not-these n (inr (inl e)) (inr (inr f)) = absurd (omega (arith, e, f))
-not-these n (inr (inr e)) (inl f) = absurd (omega (arith, e, f))
-not-these n (inr (inr e)) (inr (inl f)) = absurd (omega (arith, e, f))
-not-these n (inr (inr e)) (inr (inr f)) = absurd (omega (arith, e, f))
+beside : (n : ℕ) → OneOf (1 ∷ 4 ∷ 5 ∷ []) n → Beside n
+beside n (inl e) = (λ f. omega (arith, e, f), λ f. omega (arith, e, f), λ f. omega (arith, e, f))
+beside n (inr (inl e)) = (λ f. omega (arith, e, f), λ f. omega (arith, e, f), λ f. omega (arith, e, f))
+beside n (inr (inr e)) = (λ f. omega (arith, e, f), λ f. omega (arith, e, f), λ f. omega (arith, e, f))
 
-other-number : (t : AprsType) → Others t → Beside (typeNumber t)
-other-number kind.Text h = not-these 0 h (inl refl)
-other-number kind.Binary h = (λ e. absurd (omega (arith, e)), λ e. absurd (omega (arith, e)), λ e. absurd (omega (arith, e)))
-other-number kind.Position h = not-these 2 h (inr (inl refl))
-other-number kind.TimestampedPosition h = not-these 3 h (inr (inr refl))
-other-number kind.Message h = (λ e. absurd (omega (arith, e)), λ e. absurd (omega (arith, e)), λ e. absurd (omega (arith, e)))
-other-number kind.ThirdParty h = (λ e. absurd (omega (arith, e)), λ e. absurd (omega (arith, e)), λ e. absurd (omega (arith, e)))
+-- the number of ThirdParty is not its place
+pub other-number : (t : AprsType) → Others t → Beside (typeNumber t)
+other-number kind.Text h = beside 0 h
+other-number kind.Binary h = beside 1 h
+other-number kind.Position h = beside 2 h
+other-number kind.TimestampedPosition h = beside 3 h
+other-number kind.Message h = beside 4 h
+other-number kind.ThirdParty h = (λ f. omega (arith, f), λ f. omega (arith, f), λ f. omega (arith, f))
 
 -- ---- a body by its type
 

@@ -1,7 +1,13 @@
-// A body by its type: `aprs_decode` of the source.
+// A body by its type: `aprs_encode` and `aprs_decode` of the source.
 use ax25_address::classify::AprsType;
+use ax25_address::trim::trimmed;
+use ax25_aprs::part::Part;
+use ax25_aprs::text::least;
+use ax25_aprs::text::text_encode;
 use ax25_token::Call;
 use ax25_token::Token;
+use ax25_token::encode::Put;
+use ax25_token::encode::put_call;
 use bits::read::Got;
 ghost use mathlib.Core.Path.{_≡_};
 ghost use Prim.Native.Nat.{_+_, _^_, _≤_, _<_};
@@ -10,10 +16,46 @@ ghost use Rattle.laws.specs.Bits.{unpack};
 ghost use Rattle.laws.specs.Text.{filled};
 ghost use Rattle.laws.specs.Wrote.{Wrote};
 ghost use Rattle.ax25_token.specs.Call.{textOf};
+ghost use Rattle.ax25_token.specs.Put.{Puts};
+ghost use Rattle.ax25_token.specs.Token.{tokenBits};
 ghost use Rattle.ax25_address.specs.Kind.{typeNumber};
-ghost use Rattle.ax25_aprs.specs.Body.{readMessage, readBody};
-ghost use Rattle.ax25_aprs.specs.Put.{Reads};
+ghost use Rattle.ax25_aprs.specs.Body.{callOf, messageBits, bodyBits, readMessage, readBody};
+ghost use Rattle.ax25_aprs.specs.Put.{Does, Reads};
 ghost use Rattle.ax25_body.specs.Read.{readPosition};
+
+// The token of a call from its text, trimmed and in capitals.
+pub(crate) fn put_trimmed(s: &[u8], l: usize, out: &mut [u8], at: usize) -> Put
+    requires { ⌜ (length (now s) ≤ 10) × (at < 2 ^ 60) ⌝ }
+    ensures { λ r. ⌜ Puts (unpack (now (out .entry))) at (tokenBits l (callOf (now (s .entry)))) (unpack (now (out .exit))) r ⌝ }
+{
+    put_call(trimmed(s), l, out, at)
+}
+
+// A message behind its type byte: the token of its addressee, and the text behind the second ':'.
+pub fn message_encode(s: &[u8], l: usize, out: &mut [u8], at: usize) -> Part
+    requires { ⌜ (length (now s) < 2 ^ 56) × (at < 2 ^ 59) × (2 ≤ l) × (l ≤ 7) ⌝ }
+    ensures { λ r. ⌜ Does (messageBits l (now (s .entry))) (unpack (now (out .entry))) at (unpack (now (out .exit))) r ⌝ }
+{
+    let n = least(9, s.len());
+    let Put::Next(p) = put_trimmed(&s[0..n], l, out, at) else {
+        return Part::Refused(refusals::BAD_CALL);
+    };
+    let m = least(10, s.len());
+    text_encode(&s[m..], false, out, p)
+}
+
+// A body of a type behind its type byte.
+pub fn aprs_encode(typ: AprsType, s: &[u8], l: usize, out: &mut [u8], at: usize) -> Part
+    requires { ⌜ (length (now s) < 2 ^ 56) × (at < 2 ^ 59) × (2 ≤ l) × (l ≤ 7) ⌝ }
+    ensures { λ r. ⌜ Does (bodyBits (typeNumber typ) l (now (s .entry))) (unpack (now (out .entry))) at (unpack (now (out .exit))) r ⌝ }
+{
+    match typ {
+        AprsType::Text => text_encode(s, false, out, at),
+        AprsType::Position => ax25_aprs::latlon::latlon_encode(s, out, at),
+        AprsType::TimestampedPosition => ax25_aprs::body::timestamped_encode(s, out, at),
+        _ => message_encode(s, l, out, at),
+    }
+}
 
 // The text of a call that is held. The next place.
 pub(crate) fn put_text(c: Call, out: &mut [u8], to: usize) -> usize

@@ -28,6 +28,34 @@ use Rattle.ax25_token.proofs.Cases.{spell-bad, ap-symbol}
 use Rattle.ax25_token.proofs.Hyphen.{hyphened-no, base-plain, base-at}
 use Rattle.ax25_token.proofs.Sizes.{spell-size}
 
+-- ---- an answer that is a position, and one that is not
+
+pub record Gave (o : Option (List Bool)) (b : List Bool) (at : ℕ) (c : List Bool) (p : ℕ) : Type 0 where
+  pub bits : List Bool
+  pub is : o ≡ some bits
+  pub wrote : Wrote b at bits c p
+
+module _ (b : List Bool) (at : ℕ) (c : List Bool) where
+  pub gave : (o : Option (List Bool)) (t : Put) (p : ℕ) → t ≡ Next p → Puts b at o c t → Gave o b at c p
+  gave o t p e h = by o (subst (λ (u : Put). Puts b at o c u) e h)
+    where
+      by : (o : Option (List Bool)) → Puts b at o c (Next p) → Gave o b at c p
+      by none k = absurd k
+      by (some x) k = record { bits = x; is = refl; wrote = k }
+
+  pub bad : (o : Option (List Bool)) (t : Put) → t ≡ Bad → Puts b at o c t → o ≡ none
+  bad o t e h = by o (subst (λ (u : Put). Puts b at o c u) e h)
+    where
+      by : (o : Option (List Bool)) → Puts b at o c Bad → o ≡ none
+      by none k = refl
+      by (some x) k = absurd k
+
+  pub puts : {o : Option (List Bool)} (x : List Bool) (p : ℕ) → o ≡ some x → Wrote b at x c p → Puts b at o c (Next p)
+  puts x p e w = rw e w
+
+  pub puts-none : {o : Option (List Bool)} → o ≡ none → Puts b at o c Bad
+  puts-none e = rw e tt
+
 -- ---- an answer after bits
 
 pub puts-after : {b d : List Bool} {at q : ℕ} {x : List Bool} → Wrote b at x d q → (o : Option (List Bool)) (e : List Bool) (r : Put)

@@ -5,6 +5,7 @@ use mathlib.Core.Path.{refl}
 use lib.ListN.{drop}
 use denote.Ref.{now}
 use Rattle.laws.specs.Bits.{unpack}
+use Rattle.laws.specs.Text.{ascii}
 use Rattle.laws.proofs.WroteLaws.{wrote-then}
 use Rattle.ax25_aprs.proofs.PartLaws.{reads-then}
 use Rattle.ax25_body.specs.Read.{readInner}
@@ -105,9 +106,9 @@ returns-4 : tie.Need-returns-4
 returns-4 c =
     let a = c .before .before .before .before .before .before .before .before .before .before .before .before .before .before .before .before .before .before .before .before .before .before .before .before .before .before .before .before .before .before .args in
     let u = unpack (now (a .s)) in
-    let p = passed _ _ _ _ _ _ _ _ _ (c .before .before .before .before .before .before .before .before .before .before .before .before .before .before .before .before .before .before .before .before .before .p .given .1) (c .before .before .before .before .before .before .before .before .before .before .before .before .before .before .before .before .before .before .before .before .before .before .before .before .before .call-decode .ensures) in
-    let q = passed _ _ _ _ _ _ _ _ _ (c .before .before .before .before .before .before .before .before .before .before .before .before .before .q .given .1) (c .before .before .before .before .before .before .before .before .before .before .before .before .before .before .before .before .before .call-decode2 .ensures) in
-    let r = passed _ _ _ _ _ _ _ _ _ (c .before .before .before .before .before .r .given .1) (c .before .before .before .before .before .before .before .before .before .call-decode3 .ensures) in
+    let p = passed _ _ (ascii "}") _ _ _ _ _ _ (c .before .before .before .before .before .before .before .before .before .before .before .before .before .before .before .before .before .before .before .before .before .p .given .1) (c .before .before .before .before .before .before .before .before .before .before .before .before .before .before .before .before .before .before .before .before .before .before .before .before .before .call-decode .ensures) in
+    let q = passed _ _ (ascii ">") _ _ _ _ _ _ (c .before .before .before .before .before .before .before .before .before .before .before .before .before .q .given .1) (c .before .before .before .before .before .before .before .before .before .before .before .before .before .before .before .before .before .call-decode2 .ensures) in
+    let r = passed _ _ (ascii ",TCPIP,") _ _ _ _ _ _ (c .before .before .before .before .before .r .given .1) (c .before .before .before .before .before .before .before .before .before .call-decode3 .ensures) in
     let rest = drop (c .before .before .before .before .before .r .given .0 .0) u in
     rw (third-all (a .l) (drop (a .at) u) (p .text) _ (p .is) (q .text) _ (q .is) (r .text) rest (r .is))
     (reads-then (wrote-then (p .wrote) (wrote-then (q .wrote) (r .wrote))) (readInner (a .l) rest) _ _ (c .before .before .inner-decode .ensures))
