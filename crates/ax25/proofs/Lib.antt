@@ -1,9 +1,12 @@
+pub mod BodyLaws
 pub mod CoderLaws
 pub mod Examples
 pub mod FrameBack
 pub mod HeadBack
 pub mod HeadCode
 pub mod InfoLaws
+pub mod HeadLaws
 pub mod PackLaws
 pub mod PlainLaws
+pub mod ReaderLaws
 pub mod SizeLaws

@@ -2,3 +2,4 @@ pub mod Codes
 pub mod Decode
 pub mod Encode
 pub mod Plain
+pub mod Put

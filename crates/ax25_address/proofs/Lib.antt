@@ -1,5 +1,6 @@
 pub mod AddressLaws
 pub mod AliasLaws
+pub mod CallField
 pub mod ClassifyLaws
 pub mod DigiLaws
 pub mod LetterLaws
