@@ -6,6 +6,7 @@ pub mod HeadBack
 pub mod HeadCode
 pub mod InfoLaws
 pub mod HeadLaws
+pub mod MessageCode
 pub mod PackLaws
 pub mod PlainLaws
 pub mod ReaderLaws

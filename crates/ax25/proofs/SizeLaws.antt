@@ -65,7 +65,7 @@ module _ (l : ℕ) (two : 2 ≤ l) (high : l ≤ 9) where
   width-le false = omega arith
 
   -- one H bit and one token for each digipeater, two more tokens, the alias bit and the type
-  head-size : (r : Parsed) (size : ℕ) → Sized l r size → (typ : ℕ) (b : List Bool) → headBits l r typ ≡ some b
+  pub head-size : (r : Parsed) (size : ℕ) → Sized l r size → (typ : ℕ) (b : List Bool) → headBits l r typ ≡ some b
       → length b ≤ length (r .digis) + length (r .digis) * each + 2 * each + 4
   unfolding headBits
   head-size r size s typ b e =
@@ -84,7 +84,7 @@ module _ (l : ℕ) (two : 2 ≤ l) (high : l ≤ 9) where
   body-bytes r = by-test (isUi r) (λ e. rw e (omega arith)) (λ e. rw e (omega arith))
 
   -- eight bits for each byte at most, or seven and the third party's calls
-  info-size : (r : Parsed) (typ : ℕ) (head : List Bool) (m : ℕ) → 8 * length (r .info) + 16 ≤ m → 7 * length (r .info) + 252 ≤ m → AtMost m (infoBits l r typ head)
+  pub info-size : (r : Parsed) (typ : ℕ) (head : List Bool) (m : ℕ) → 8 * length (r .info) + 16 ≤ m → 7 * length (r .info) + 252 ≤ m → AtMost m (infoBits l r typ head)
   unfolding infoBits
   info-size r typ head m h k =
       let i = drop 1 (r .info) in

@@ -16,21 +16,25 @@ ghost use Rattle.ax25_address.specs.Address.{addrCall, heardIn};
 ghost use Rattle.ax25_address.specs.Kind.{typeNumber};
 ghost use Rattle.ax25_address.specs.Parse.{Parsed, fieldsOf, parseOf, typeOf, aliasOf};
 ghost use Rattle.ax25_address.specs.Record.{recordOf, seenOf};
-ghost use Rattle.ax25_address.specs.Types.{Text};
+ghost use Rattle.ax25_address.specs.Types.{Text, callLen};
 ghost use Rattle.ax25_aprs.specs.Put.{Does};
-ghost use Rattle.ax25.specs.Encode.{digiCode, typeWidth, tokensBits, digiBits, headBits, infoBits};
+ghost use Rattle.ax25.specs.Codes.{Codes};
+ghost use Rattle.ax25.specs.Encode.{digiCode, typeWidth, tokensBits, digiBits, headBits, infoBits, encodeOf};
 use ax25_address::address::addr_call;
 use ax25_address::classify::AprsType;
 use ax25_address::parse::addr_end;
 use ax25_address::record::Record;
+use ax25_address::record::call_len;
 use ax25_aprs::part::Part;
 use ax25_body::body::aprs_encode;
 use ax25_body::third::third_encode;
 use ax25_token::encode::Put;
 use ax25_token::encode::put_call;
 use bits::write::bit;
+use bits::write::byte;
 use bits::write::push;
 use bits::write::push_text7;
+use refusals::BAD_CALL;
 
 // The H bits of n digipeaters, of which f starts at the first. The next position.
 fn put_heard(f: &[u8], l: usize, n: usize, out: &mut [u8], at: usize) -> usize
@@ -218,5 +222,22 @@ fn put_body(frame: &[u8], command: u8, l: usize, r: Record, out: &mut [u8], at: 
         AprsType::Binary => Part::Next(push_bytes(out, at, &frame[start..])),
         AprsType::ThirdParty => third_encode(&frame[end + 3..], l, out, at),
         _ => aprs_encode(typ, &frame[end + 3..], l, out, at),
+    }
+}
+
+// The message of a frame, whose record is r, as far as the output goes: its length, or the refusal's number.
+pub fn encode(frame: &[u8], command: u8, r: Record, out: &mut [u8]) -> Part
+    requires { ⌜ (length (now frame) ≤ 4999) × (some (recordOf r) ≡ seenOf command (parseOf (callLen command) (now frame))) ⌝ }
+    ensures { λ t. ⌜ Codes (encodeOf command (now (frame .entry))) (now (out .entry)) (now (out .exit)) t ⌝ }
+{
+    let l = call_len(command);
+    let n = r.digis;
+    byte(out, 0, header(command, is_ui(r.ctrl, r.pid), n));
+    let Put::Next(p) = put_head(frame, command, l, r, out) else {
+        return Part::Refused(BAD_CALL);
+    };
+    match put_body(frame, command, l, r, out, p) {
+        Part::Refused(k) => Part::Refused(k),
+        Part::Next(q) => Part::Next(push(out, q, 0, (8 - q % 8) % 8) / 8),
     }
 }
