@@ -11,11 +11,14 @@ use Rattle.frame.specs.declared.Control.{Control}
 use Rattle.receiver.specs.Join.{After, Heard, dropped, more, done}
 use Rattle.receiver.specs.Join as join
 use Rattle.receiver.specs.declared.Reassembler.{Reassembler}
+use Rattle.kiss.specs.Codec.{Summary}
 use Rattle.xara.specs.declared.XaraAnswer.{XaraAnswer}
 use Rattle.xara.specs.declared.XaraControl.{XaraControl}
 use Rattle.xara.specs.declared.XaraReceiver.{XaraReceiver}
 use Rattle.xara.specs.declared.XaraFresh.{XaraFresh}
 use Rattle.xara.specs.declared.XaraPushed.{XaraPushed}
+use Rattle.xara.specs.declared.XaraSummary.{XaraSummary}
+use Rattle.xara.specs.declared.XaraDecoded.{XaraDecoded}
 
 -- a byte as a flag: every byte but 0 is true
 abbrev pub flag : ℕ → Bool
@@ -44,3 +47,12 @@ heardOf p store =
 
 abbrev pub afterOf : XaraPushed → List ℕ → After
 afterOf p store = record { heard = heardOf p store; receiver = receiverOf (p .receiver); store = store }
+
+-- the type, how many digipeaters, and whether control is 03, or a refusal's number
+abbrev pub toldSummary : XaraSummary → Outcome Summary
+toldSummary s =
+    pick (s .ok) (answer (record { typ = s .«aprs_type»; digis = s .digis; ui = s .ui })) (refused (s .refusal))
+
+-- the length and the command, or a refusal's number
+abbrev pub toldDecoded : XaraDecoded → Outcome (ℕ × ℕ)
+toldDecoded d = pick (d .ok) (answer (d .length, d .command)) (refused (d .refusal))

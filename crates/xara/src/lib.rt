@@ -9,8 +9,14 @@ ghost use Rattle.frame.specs.Frame.{buildOf};
 ghost use Rattle.receiver.specs.Join.{after, resetOf, joinOf};
 ghost use Rattle.receiver.specs.New.{newOf};
 ghost use Rattle.receiver.specs.Push.{pushOf};
-ghost use Rattle.xara.specs.Told.{flag, told, controlOf, receiverOf, freshOf, afterOf};
+ghost use Rattle.ax25_address.specs.Kind.{typeNumber};
+ghost use Rattle.kiss.specs.Codec.{summaryOf, decodeOf};
+ghost use Rattle.kiss.specs.Told.{decodeInto};
+ghost use Rattle.xara.specs.Told.{flag, told, controlOf, receiverOf, freshOf, afterOf, toldSummary, toldDecoded};
+use ax25_address::classify::AprsType;
 use frame::Control;
+use kiss::Decoded;
+use kiss::Summarised;
 use receiver::Fresh;
 use receiver::Push;
 use receiver::Pushed;
@@ -59,6 +65,25 @@ pub struct XaraPushed {
     pub refusal: u8,
     pub length: usize,
     pub receiver: XaraReceiver,
+}
+
+// ok with a frame's type, whether control is 03 and how many digipeaters, or a refusal's number.
+#[repr(C)]
+pub struct XaraSummary {
+    pub ok: bool,
+    pub refusal: u8,
+    pub aprs_type: u8,
+    pub ui: bool,
+    pub digis: usize,
+}
+
+// ok with the command and the data's length, or a refusal's number.
+#[repr(C)]
+pub struct XaraDecoded {
+    pub ok: bool,
+    pub refusal: u8,
+    pub command: u8,
+    pub length: usize,
 }
 
 // A flag as a byte.
@@ -158,6 +183,20 @@ fn heard(pushed: Pushed) -> XaraPushed
             length,
             receiver,
         },
+    }
+}
+
+// The number of a type.
+fn number(t: AprsType) -> u8
+    ensures { λ r. ⌜ r ≡ typeNumber t ⌝ }
+{
+    match t {
+        AprsType::Text => 0,
+        AprsType::Binary => 1,
+        AprsType::Position => 2,
+        AprsType::TimestampedPosition => 3,
+        AprsType::Message => 4,
+        AprsType::ThirdParty => 6,
     }
 }
 
@@ -270,4 +309,51 @@ pub extern "C" fn xara_receiver_reset(receiver: XaraReceiver) -> XaraReceiver
     ensures { λ r. ⌜ receiverOf r ≡ resetOf (receiverOf receiver) ⌝ }
 {
     shown(read(receiver).reset())
+}
+
+// What a frame is, before it is coded.
+#[no_mangle]
+pub extern "C" fn xara_summary(command: u8, data: &[u8]) -> XaraSummary
+    ensures { λ r. ⌜ toldSummary r ≡ summaryOf command (now («data» .entry)) ⌝ }
+{
+    match kiss::summary(command, data) {
+        Summarised::Refused(refusal) => XaraSummary {
+            ok: false,
+            refusal,
+            aprs_type: 0,
+            ui: false,
+            digis: 0,
+        },
+        Summarised::Is(facts) => {
+            let aprs_type = facts.aprs_type;
+            XaraSummary {
+                ok: true,
+                refusal: 0,
+                aprs_type: number(aprs_type),
+                ui: facts.ui,
+                digis: facts.digis,
+            }
+        }
+    }
+}
+
+// The data that a message was coded from.
+#[no_mangle]
+pub extern "C" fn xara_decode(message: &[u8], out: &mut [u8]) -> XaraDecoded
+    ensures { λ r. ⌜ (toldDecoded r, now (out .exit)) ≡ decodeInto (decodeOf (now (message .entry))) (now (out .entry)) ⌝ }
+{
+    match kiss::decode(message, out) {
+        Decoded::Refused(refusal) => XaraDecoded {
+            ok: false,
+            refusal,
+            command: 0,
+            length: 0,
+        },
+        Decoded::Bytes(command, length) => XaraDecoded {
+            ok: true,
+            refusal: 0,
+            command,
+            length,
+        },
+    }
 }
