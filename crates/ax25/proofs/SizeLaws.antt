@@ -133,14 +133,14 @@ packed-bounds header typ (answer b) c h m e =
     let q : header ∷ pack b ≡ c .bytes = cc in
     rw (← q) (record { fits = omega (arith, length-pack b, m b refl); first-low = h })
 
-four-from : {P : Type 0} (o : Option (List Bool)) (f : List Bool → Outcome Coded) (c : Coded) → orFour o f ≡ answer c → ((b : List Bool) → o ≡ some b → f b ≡ answer c → P) → P
+pub four-from : {P : Type 0} (o : Option (List Bool)) (f : List Bool → Outcome Coded) (c : Coded) → orFour o f ≡ answer c → ((b : List Bool) → o ≡ some b → f b ≡ answer c → P) → P
 four-from none f c e k = absurd (never e)
   where
     never : _≡_ {A = Outcome Coded} (refused 4) (answer c) → ⊥
     never q = let z : _≡_ {A = ℕ} 0 1 = cc in omega arith
 four-from (some b) f c e k = k b refl e
 
-three-from : {P : Type 0} (o : Option Parsed) (f : Parsed → Outcome Coded) (c : Coded) → orThree o f ≡ answer c → ((r : Parsed) → o ≡ some r → f r ≡ answer c → P) → P
+pub three-from : {P : Type 0} (o : Option Parsed) (f : Parsed → Outcome Coded) (c : Coded) → orThree o f ≡ answer c → ((r : Parsed) → o ≡ some r → f r ≡ answer c → P) → P
 three-from none f c e k = absurd (never e)
   where
     never : _≡_ {A = Outcome Coded} (refused 3) (answer c) → ⊥

@@ -80,7 +80,7 @@ same-frame : (command l h : ℕ) (m : List ℕ) → l ≡ callLen command
     → readFrame l h (unpack (take (length m - 1) (drop 1 m))) ≡ readFrame (callLen command) h (unpack (drop 1 m))
 same-frame command l h m e = rw (e, from-place m 1)
 
-no-bytes : (x : List ℕ) → length x ≡ 0 → x ≡ []
+pub no-bytes : (x : List ℕ) → length x ≡ 0 → x ≡ []
 no-bytes [] e = refl
 no-bytes (y ∷ x) e = absurd (omega arith)
 

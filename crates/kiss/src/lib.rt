@@ -2,17 +2,23 @@
 mod generic;
 
 ghost use mathlib.Core.Path.{_≡_};
+ghost use mathlib.Core.Option.{some};
 ghost use Prim.Native.Nat.{_≤_, _<_};
 ghost use lib.ListN.{length, getD, drop};
 ghost use Rattle.laws.specs.Bits.{unpack};
 ghost use Rattle.refusals.specs.Outcome.{answer};
 ghost use Rattle.ax25.specs.Decode.{readFrame};
+ghost use Rattle.ax25.specs.Encode.{encodeOf};
+ghost use Rattle.ax25_address.specs.Parse.{parseOf};
+ghost use Rattle.ax25_address.specs.Record.{recordOf, seenOf};
 ghost use Rattle.ax25_address.specs.Types.{Text, Generic, callLen};
-ghost use Rattle.kiss.specs.Codec.{summaryOf, orSeven, decodeOf};
+ghost use Rattle.kiss.specs.Codec.{codeOf, summaryOf, orSeven, decodeOf};
 ghost use Rattle.kiss.specs.Generic.{genericOf, genericBack};
 ghost use Rattle.kiss.specs.Told.{encodedOf, codeInto, summarisedOf, decodedOf, decodeInto};
 use ax25_address::classify::AprsType;
 use ax25_address::record::Parsed;
+use ax25_address::record::Record;
+use ax25_aprs::part::Part;
 use bits::read::Got;
 use refusals::COMMAND;
 use refusals::MAX_DATA;
@@ -39,6 +45,51 @@ fn encode_generic(data: &[u8], out: &mut [u8]) -> Encoded
     }
     generic::generic_encode(data, out);
     Encoded::Bytes(n, AprsType::Text)
+}
+
+// A frame whose record is found: the first run measures here too.
+fn encode_found(command: u8, data: &[u8], r: Record, out: &mut [u8]) -> Encoded
+    requires { ⌜ (length (now «data») ≤ 4999) × (some (recordOf r) ≡ seenOf command (parseOf (callLen command) (now «data»))) ⌝ }
+    ensures { λ t. ⌜ (encodedOf t, now (out .exit)) ≡ codeInto (encodeOf command (now («data» .entry))) (now (out .entry)) ⌝ }
+{
+    let typ = r.aprs_type;
+    match ax25::encode::encode(data, command, r, &mut out[..0]) {
+        Part::Refused(n) => Encoded::Refused(n),
+        Part::Next(size) => {
+            if out.len() < size {
+                return Encoded::Refused(OUTPUT);
+            }
+            ax25::encode::encode(data, command, r, out);
+            Encoded::Bytes(size, typ)
+        }
+    }
+}
+
+// A frame.
+fn encode_frame(command: u8, data: &[u8], out: &mut [u8]) -> Encoded
+    requires { ⌜ length (now «data») ≤ 4999 ⌝ }
+    ensures { λ t. ⌜ (encodedOf t, now (out .exit)) ≡ codeInto (encodeOf command (now («data» .entry))) (now (out .entry)) ⌝ }
+{
+    let Parsed::Found(r) = ax25_address::record::parse(data, command) else {
+        return Encoded::Refused(SHORT);
+    };
+    encode_found(command, data, r, out)
+}
+
+// The message of data under a command: its length and type, and its bytes in out.
+pub fn encode(command: u8, data: &[u8], out: &mut [u8]) -> Encoded
+    ensures { λ r. ⌜ (encodedOf r, now (out .exit)) ≡ codeInto (codeOf command (now («data» .entry))) (now (out .entry)) ⌝ }
+{
+    if 2 < command {
+        return Encoded::Refused(COMMAND);
+    }
+    if MAX_DATA < data.len() {
+        return Encoded::Refused(TOO_LONG);
+    }
+    if command == 2 {
+        return encode_generic(data, out);
+    }
+    encode_frame(command, data, out)
 }
 
 // What a frame is, before it is coded.
