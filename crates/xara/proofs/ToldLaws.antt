@@ -14,3 +14,7 @@ beside e = rw e
 -- a summary by its type
 pub of-type : {t u digis : ℕ} {ui : Bool} → t ≡ u → _≡_ {A = Outcome Summary} (answer (record { typ = t; digis = digis; ui = ui })) (answer (record { typ = u; digis = digis; ui = ui }))
 of-type e = rw e
+
+-- a length and a type, by the type
+pub with-type : {n t u : ℕ} → t ≡ u → _≡_ {A = Outcome (ℕ × ℕ)} (answer (n, t)) (answer (n, u))
+with-type e = rw e

@@ -17,6 +17,7 @@ use Rattle.xara.specs.declared.XaraControl.{XaraControl}
 use Rattle.xara.specs.declared.XaraReceiver.{XaraReceiver}
 use Rattle.xara.specs.declared.XaraFresh.{XaraFresh}
 use Rattle.xara.specs.declared.XaraPushed.{XaraPushed}
+use Rattle.xara.specs.declared.XaraEncoded.{XaraEncoded}
 use Rattle.xara.specs.declared.XaraSummary.{XaraSummary}
 use Rattle.xara.specs.declared.XaraDecoded.{XaraDecoded}
 
@@ -47,6 +48,10 @@ heardOf p store =
 
 abbrev pub afterOf : XaraPushed → List ℕ → After
 afterOf p store = record { heard = heardOf p store; receiver = receiverOf (p .receiver); store = store }
+
+-- the length and the type, or a refusal's number
+abbrev pub toldEncoded : XaraEncoded → Outcome (ℕ × ℕ)
+toldEncoded e = pick (e .ok) (answer (e .length, e .«aprs_type»)) (refused (e .refusal))
 
 -- the type, how many digipeaters, and whether control is 03, or a refusal's number
 abbrev pub toldSummary : XaraSummary → Outcome Summary

@@ -10,12 +10,13 @@ ghost use Rattle.receiver.specs.Join.{after, resetOf, joinOf};
 ghost use Rattle.receiver.specs.New.{newOf};
 ghost use Rattle.receiver.specs.Push.{pushOf};
 ghost use Rattle.ax25_address.specs.Kind.{typeNumber};
-ghost use Rattle.kiss.specs.Codec.{summaryOf, decodeOf};
-ghost use Rattle.kiss.specs.Told.{decodeInto};
-ghost use Rattle.xara.specs.Told.{flag, told, controlOf, receiverOf, freshOf, afterOf, toldSummary, toldDecoded};
+ghost use Rattle.kiss.specs.Codec.{codeOf, summaryOf, decodeOf};
+ghost use Rattle.kiss.specs.Told.{codeInto, decodeInto};
+ghost use Rattle.xara.specs.Told.{flag, told, controlOf, receiverOf, freshOf, afterOf, toldEncoded, toldSummary, toldDecoded};
 use ax25_address::classify::AprsType;
 use frame::Control;
 use kiss::Decoded;
+use kiss::Encoded;
 use kiss::Summarised;
 use receiver::Fresh;
 use receiver::Push;
@@ -65,6 +66,15 @@ pub struct XaraPushed {
     pub refusal: u8,
     pub length: usize,
     pub receiver: XaraReceiver,
+}
+
+// ok with the data's type and the message's length, or a refusal's number.
+#[repr(C)]
+pub struct XaraEncoded {
+    pub ok: bool,
+    pub refusal: u8,
+    pub aprs_type: u8,
+    pub length: usize,
 }
 
 // ok with a frame's type, whether control is 03 and how many digipeaters, or a refusal's number.
@@ -309,6 +319,27 @@ pub extern "C" fn xara_receiver_reset(receiver: XaraReceiver) -> XaraReceiver
     ensures { λ r. ⌜ receiverOf r ≡ resetOf (receiverOf receiver) ⌝ }
 {
     shown(read(receiver).reset())
+}
+
+// The message that data is coded to.
+#[no_mangle]
+pub extern "C" fn xara_encode(command: u8, data: &[u8], out: &mut [u8]) -> XaraEncoded
+    ensures { λ r. ⌜ (toldEncoded r, now (out .exit)) ≡ codeInto (codeOf command (now («data» .entry))) (now (out .entry)) ⌝ }
+{
+    match kiss::encode(command, data, out) {
+        Encoded::Refused(refusal) => XaraEncoded {
+            ok: false,
+            refusal,
+            aprs_type: 0,
+            length: 0,
+        },
+        Encoded::Bytes(length, aprs_type) => XaraEncoded {
+            ok: true,
+            refusal: 0,
+            aprs_type: number(aprs_type),
+            length,
+        },
+    }
 }
 
 // What a frame is, before it is coded.
