@@ -1,7 +1,9 @@
 //! Runs the exported functions and the unmodified Rust on the same inputs for some seconds, and says where they differ.
 
 mod calls;
+mod codings;
 mod histories;
+mod journeys;
 mod lent;
 mod receiver;
 mod tally;
@@ -58,6 +60,11 @@ fn run(time: Duration, seed: u64) -> Tally {
             calls::some_count(&mut r, &mut tally);
             histories::made_up(&mut r, &mut tally);
             histories::history(&mut r, &mut tally);
+        }
+        for _ in 0..200 {
+            codings::coding(&mut r, &mut tally);
+            codings::decoding(&mut r, &mut tally);
+            journeys::journey(&mut r, &mut tally);
         }
     }
     tally

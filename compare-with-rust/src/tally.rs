@@ -1,6 +1,7 @@
 //! Compares what is expected with what our side did, and counts.
 
 use crate::xara::Heard;
+use std::collections::BTreeMap;
 use std::fmt::Debug;
 
 /// What is compared: a call of each kind, and states.
@@ -16,9 +17,13 @@ pub enum Kind {
     Reset,
     State,
     MadeUp,
+    Encode,
+    Summary,
+    Decode,
+    Journey,
 }
 
-const ROWS: [&str; 10] = [
+const ROWS: [&str; 14] = [
     "crc",
     "count",
     "fragment",
@@ -29,6 +34,10 @@ const ROWS: [&str; 10] = [
     "receiver reset",
     "receiver state",
     "receiver made up",
+    "encode",
+    "summary",
+    "decode",
+    "journey",
 ];
 
 /// How many differences are written out with their inputs.
@@ -41,6 +50,10 @@ pub struct Tally {
     dropped: u64,
     more: u64,
     done: u64,
+    coded: BTreeMap<Result<u8, u8>, u64>,
+    decoded: BTreeMap<Result<u8, u8>, u64>,
+    longest: usize,
+    arrived: u64,
 }
 
 impl Tally {
@@ -77,6 +90,22 @@ impl Tally {
         }
     }
 
+    /// Counts the types and the refusals of the coder.
+    pub fn coded(&mut self, met: Result<u8, u8>) {
+        *self.coded.entry(met).or_default() += 1;
+    }
+
+    /// Counts the commands and the refusals of the decoder, with the most bytes that it answered.
+    pub fn decoded(&mut self, met: Result<u8, u8>, length: usize) {
+        *self.decoded.entry(met).or_default() += 1;
+        self.longest = self.longest.max(length);
+    }
+
+    /// Counts the journeys at whose end the data is what it was.
+    pub fn arrived(&mut self) {
+        self.arrived += 1;
+    }
+
     pub fn compared(&self) -> u64 {
         self.compared.iter().sum()
     }
@@ -85,7 +114,7 @@ impl Tally {
         self.differ.iter().sum()
     }
 
-    /// A row for each kind, then what the receivers answered.
+    /// A row for each kind, then what was answered.
     pub fn table(&self) -> String {
         let mut text = String::new();
         for (row, name) in ROWS.iter().enumerate() {
@@ -95,8 +124,20 @@ impl Tally {
             }
             text += "\n";
         }
-        text + &format!("pushes and joins: {} done, {} more, {} dropped\n", self.done, self.more, self.dropped)
+        text += &format!("pushes and joins: {} done, {} more, {} dropped\n", self.done, self.more, self.dropped);
+        text += &format!("coded: {}\n", told("type", &self.coded));
+        text += &format!("decoded: {}, at most {} bytes\n", told("command", &self.decoded), self.longest);
+        text + &format!("journeys: {} came back as they were\n", self.arrived)
     }
+}
+
+/// How often each value and each refusal was met.
+fn told(value: &str, met: &BTreeMap<Result<u8, u8>, u64>) -> String {
+    let words = met.iter().map(|(answer, times)| match answer {
+        Ok(v) => format!("{value} {v} {times} times"),
+        Err(refusal) => format!("refused {refusal} {times} times"),
+    });
+    words.collect::<Vec<_>>().join(", ")
 }
 
 /// The first place where two lists of bytes are not the same.

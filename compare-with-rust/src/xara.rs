@@ -44,6 +44,34 @@ struct XaraPushed {
     receiver: Receiver,
 }
 
+#[repr(C)]
+#[derive(Clone, Copy)]
+struct XaraEncoded {
+    ok: bool,
+    refusal: u8,
+    aprs_type: u8,
+    length: usize,
+}
+
+#[repr(C)]
+#[derive(Clone, Copy)]
+struct XaraSummary {
+    ok: bool,
+    refusal: u8,
+    aprs_type: u8,
+    ui: bool,
+    digis: usize,
+}
+
+#[repr(C)]
+#[derive(Clone, Copy)]
+struct XaraDecoded {
+    ok: bool,
+    refusal: u8,
+    command: u8,
+    length: usize,
+}
+
 unsafe extern "C" {
     fn xara_crc16_genibus(data: *const u8, data_len: usize) -> u16;
     fn xara_count_for_field(total: usize, field: usize) -> XaraAnswer;
@@ -83,6 +111,9 @@ unsafe extern "C" {
         n: usize,
     ) -> XaraPushed;
     fn xara_receiver_reset(receiver: Receiver) -> Receiver;
+    fn xara_encode(command: u8, data: *const u8, data_len: usize, out: *mut u8, out_len: usize) -> XaraEncoded;
+    fn xara_summary(command: u8, data: *const u8, data_len: usize) -> XaraSummary;
+    fn xara_decode(message: *const u8, message_len: usize, out: *mut u8, out_len: usize) -> XaraDecoded;
 }
 
 /// What a push or a join answers; `Unknown` is no answer of document 01.
@@ -128,6 +159,24 @@ pub fn fragment(message: &[u8], field: usize, mask: u8, k: usize, out: &mut [u8]
 
 pub fn frame(field: usize, data: &[u8], control: Control, marker: u8, out: &mut [u8]) -> Result<usize, u8> {
     unsafe { xara_build_frame(field, data.as_ptr(), data.len(), control, marker, out.as_mut_ptr(), out.len()) }.into()
+}
+
+/// The message's length and the type.
+pub fn encode(command: u8, data: &[u8], out: &mut [u8]) -> Result<(usize, u8), u8> {
+    let a = unsafe { xara_encode(command, data.as_ptr(), data.len(), out.as_mut_ptr(), out.len()) };
+    if a.ok { Ok((a.length, a.aprs_type)) } else { Err(a.refusal) }
+}
+
+/// The type, the number of digipeaters, and whether control is 03.
+pub fn summary(command: u8, data: &[u8]) -> Result<(u8, usize, bool), u8> {
+    let a = unsafe { xara_summary(command, data.as_ptr(), data.len()) };
+    if a.ok { Ok((a.aprs_type, a.digis, a.ui)) } else { Err(a.refusal) }
+}
+
+/// The data's length and the command.
+pub fn decode(message: &[u8], out: &mut [u8]) -> Result<(usize, u8), u8> {
+    let a = unsafe { xara_decode(message.as_ptr(), message.len(), out.as_mut_ptr(), out.len()) };
+    if a.ok { Ok((a.length, a.command)) } else { Err(a.refusal) }
 }
 
 impl Receiver {

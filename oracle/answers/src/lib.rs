@@ -3,6 +3,7 @@
 pub mod bits;
 pub mod frames;
 pub mod hex;
+pub mod messages;
 pub mod random;
 mod receiver;
 
