@@ -55,10 +55,8 @@ pub fn journey(r: &mut Random, tally: &mut Tally) {
     let Ok(receiver) = xara::Receiver::new(journey.mask) else { return };
     let expected = journey.travel(command, &data, Source(answers::Receiver::new(journey.mask)));
     let ours = journey.travel(command, &data, Ours(receiver, r.bytes(MAX_MESSAGE)));
-    if let Some(Step::Decoded(Ok((_, arrived)))) = expected.last()
-        && *arrived == data
-    {
-        tally.arrived();
+    if let Some(Step::Decoded(Ok((_, arrived)))) = expected.last() {
+        tally.arrived(*arrived == data);
     }
     let same = expected.iter().zip(&ours).take_while(|(a, b)| a == b).count();
     tally.compare(Kind::Journey, (expected.get(same), &[]), (ours.get(same), &[]), || {

@@ -60,11 +60,11 @@ fn run(time: Duration, seed: u64) -> Tally {
             calls::some_count(&mut r, &mut tally);
             histories::made_up(&mut r, &mut tally);
             histories::history(&mut r, &mut tally);
+            journeys::journey(&mut r, &mut tally);
         }
-        for _ in 0..200 {
+        for _ in 0..400 {
             codings::coding(&mut r, &mut tally);
             codings::decoding(&mut r, &mut tally);
-            journeys::journey(&mut r, &mut tally);
         }
     }
     tally

@@ -53,7 +53,8 @@ pub struct Tally {
     coded: BTreeMap<Result<u8, u8>, u64>,
     decoded: BTreeMap<Result<u8, u8>, u64>,
     longest: usize,
-    arrived: u64,
+    decoded_journeys: u64,
+    unchanged_journeys: u64,
 }
 
 impl Tally {
@@ -101,9 +102,10 @@ impl Tally {
         self.longest = self.longest.max(length);
     }
 
-    /// Counts the journeys at whose end the data is what it was.
-    pub fn arrived(&mut self) {
-        self.arrived += 1;
+    /// Counts the journeys at whose end a message is decoded, and those whose data is then what it was.
+    pub fn arrived(&mut self, unchanged: bool) {
+        self.decoded_journeys += 1;
+        self.unchanged_journeys += u64::from(unchanged);
     }
 
     pub fn compared(&self) -> u64 {
@@ -127,7 +129,7 @@ impl Tally {
         text += &format!("pushes and joins: {} done, {} more, {} dropped\n", self.done, self.more, self.dropped);
         text += &format!("coded: {}\n", told("type", &self.coded));
         text += &format!("decoded: {}, at most {} bytes\n", told("command", &self.decoded), self.longest);
-        text + &format!("journeys: {} came back as they were\n", self.arrived)
+        text + &format!("journeys: {} decoded, {} unchanged\n", self.decoded_journeys, self.unchanged_journeys)
     }
 }
 
