@@ -5,12 +5,11 @@ use mathlib.Core.Logic.{inl, inr}
 use mathlib.Core.Bool.{Bool, true, false, _&&_}
 use mathlib.Core.List.{List, [], _∷_}
 use mathlib.Core.Option.{some, Option·some-injective}
-use Prim.Native.Nat.{ℕ, suc, _+_, _*_, _≤_, _<_}
+use Prim.Native.Nat.{ℕ, suc, _+_, _*_, _≤_}
 use native.Mathlib.Omega.{arith}
-use lib.ListN.{length, getD, drop}
+use lib.ListN.{length, drop}
 use lib.Seq.{drop-drop, drop-cons}
 use lib.Dec.{eqb}
-use borrow.Author.Tests.{ne-eqb}
 use denote.Enum.Declared.{tagOf}
 use types.Run.{OneOf}
 use Rattle.laws.specs.Bits.{unpack}
@@ -21,7 +20,6 @@ use Rattle.laws.proofs.ListLaws.{from-place}
 use Rattle.laws.proofs.WroteLaws.{wrote-as}
 use Rattle.bits.specs.Text7.{lastOr, text7Bits}
 use Rattle.bits.proofs.Text7Laws.{text7-whole}
-use Rattle.refusals.specs.Outcome.{answer}
 use Rattle.ax25_address.specs.Classify.{anyHigh, isPosition, isTimestamped, isMessage, isThird, classifyOf}
 use Rattle.ax25_address.specs.Kind.{typeNumber}
 use Rattle.ax25_address.specs.Parse.{Parsed, parseOf, typeOf, isUi}

@@ -4,8 +4,8 @@ pub mod Examples
 pub mod FrameBack
 pub mod HeadBack
 pub mod HeadCode
-pub mod InfoLaws
 pub mod HeadLaws
+pub mod InfoLaws
 pub mod MessageCode
 pub mod PackLaws
 pub mod PlainLaws

@@ -1,9 +1,9 @@
 -- The coder of a frame as a whole: the header byte, the head, the body, and zeros up to a whole byte.
 -- Assumes nothing.
-use mathlib.Core.Path.{_≡_, refl, sym, ap, ap₂, subst, _∙_}
+use mathlib.Core.Path.{_≡_, refl, sym, ap, subst, _∙_}
 use mathlib.Core.Bool.{Bool, true, false, _&&_}
 use mathlib.Core.List.{List, [], _∷_, _++_}
-use mathlib.Core.Option.{Option, none, some, Option·some-injective}
+use mathlib.Core.Option.{none, some, Option·some-injective}
 use Prim.Native.Nat.{ℕ, _+_, _-_, _*_, _/_, _%_, _≤_, _<_}
 use native.Mathlib.Nat.{mul-le-mul-right, zero-add}
 use native.Mathlib.Omega.{arith}
@@ -22,8 +22,8 @@ use Rattle.ax25_token.specs.declared.encode.Put.the-variants.{Next, Bad}
 use Rattle.ax25_token.specs.Put.{Puts}
 use Rattle.ax25_token.specs.Token.{tokenBits}
 use Rattle.ax25_token.proofs.PutLaws.{Gave, gave, bad}
-use Rattle.ax25_address.specs.Parse.{Parsed, parseOf, isUi, isAp, typeOf}
-use Rattle.ax25_address.specs.Record.{Seen, seen}
+use Rattle.ax25_address.specs.Parse.{Parsed, parseOf, isAp, typeOf}
+use Rattle.ax25_address.specs.Record.{Seen}
 use Rattle.ax25_address.specs.Types.{Text, callLen}
 use Rattle.ax25_address.proofs.RecordLaws.{Known}
 use Rattle.ax25_address.proofs.SizeLaws.{parse-size}

@@ -10,7 +10,6 @@ use lib.Seq.{take-suc}
 use lib.ListN.{length, getD, take, replicate, length-append, length-replicate}
 use Rattle.laws.specs.Bits.{Bytes, odd, bitsOf, pack, unpack}
 use Rattle.laws.specs.Wrote.{Wrote}
-use Rattle.laws.proofs.BitLaws.{length-bits}
 use Rattle.laws.proofs.ByteLaws.{length-pack, unpack-pack, unpack-append, bytes-set, bytes-stored, bytes-pack}
 use Rattle.laws.proofs.WroteLaws.{wrote-then, wrote-as}
 

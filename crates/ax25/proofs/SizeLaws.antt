@@ -22,8 +22,6 @@ use Rattle.ax25_token.proofs.Sizes.{token-size}
 use Rattle.ax25_address.specs.Parse.{Parsed, parseOf, isUi, isAp, typeOf, aliasOf}
 use Rattle.ax25_address.specs.Types.{Text, Binary, ThirdParty, Ax25Long, callLen}
 use Rattle.ax25_address.proofs.SizeLaws.{AllBase, Sized, parse-size}
-use Rattle.ax25_aprs.specs.Body.{bodyBits}
-use Rattle.ax25_aprs.specs.Third.{thirdBits}
 use Rattle.ax25_aprs.proofs.Sizes.{AtMost, answer-most, le-most, pick-most, then-most, body-size, third-size}
 use Rattle.ax25.specs.Encode.{digiCode, typeWidth, headerOf, bodyBytes, tokensBits, digiBits, headBits, infoBits, frameBits, Coded, orThree, orFour, packed, codeParsed, encodeOf}
 

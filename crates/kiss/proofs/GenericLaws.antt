@@ -1,7 +1,7 @@
 -- Generic bytes: the message as two writes, the header and the bytes or their 7-bit text; and what is read back as one.
 -- Assumes nothing.
 use mathlib.Core.Path.{_≡_, refl, sym, _∙_}
-use mathlib.Core.Bool.{Bool, true, false}
+use mathlib.Core.Bool.{true, false}
 use mathlib.Core.List.{List, [], _∷_}
 use mathlib.Core.Option.{Option, none, some, Option·getD}
 use Prim.Native.Nat.{ℕ, _-_, _/_, _%_}
@@ -9,7 +9,6 @@ use native.Mathlib.Omega.{arith}
 use lib.ListN.{length, take, drop}
 use borrow.Author.Tests.{eq-eqb, ne-eqb}
 use Rattle.laws.specs.Bits.{Bytes, odd, pack, unpack}
-use Rattle.laws.specs.Pick.{pick}
 use Rattle.laws.specs.Wrote.{Wrote}
 use Rattle.laws.proofs.ByteLaws.{unpack-whole}
 use Rattle.laws.proofs.Cases.{pick-true, pick-false}

@@ -1,21 +1,17 @@
 -- The cases of an answer with a lent output, where a run over no output has measured first.
 -- Assumes nothing.
-use mathlib.Core.Path.{_≡_, refl, sym, ap, _∙_}
-use mathlib.Core.List.{List, [], _∷_, _++_}
-use Prim.Native.Nat.{ℕ, suc, _≤_, _<_}
+use mathlib.Core.Path.{_≡_, sym, ap, _∙_}
+use mathlib.Core.List.{List, [], _++_}
+use Prim.Native.Nat.{ℕ, _≤_, _<_}
 use native.Mathlib.Nat.{zero-add}
 use lib.ListN.{length}
 use lib.Seq.{sets}
 use borrow.Author.Tests.{lt-ltb, le-ltb}
 use Rattle.laws.specs.Pick.{pick}
 use Rattle.laws.specs.Wrote.{Wrote}
+use Rattle.laws.proofs.ListLaws.{sets-nil}
 use Rattle.refusals.specs.Outcome.{Outcome, refused, answer}
 use Rattle.kiss.specs.Told.{intoWith}
-
--- where nothing fits, nothing is stored
-stored-none : (i : ℕ) (v : List ℕ) → sets [] i v ≡ []
-stored-none i [] = refl
-stored-none i (x ∷ v) = stored-none (suc i) v
 
 module _ {A B : Type 0} (bytes : A → List ℕ) (value : A → B) (out : List ℕ) where
   pub tell-refused : {o : Outcome A} (n : ℕ) → o ≡ refused n → (refused n, out) ≡ intoWith bytes value o out
@@ -34,7 +30,7 @@ module _ {A B : Type 0} (bytes : A → List ℕ) (value : A → B) (out : List �
     -- the measuring run leaves x, which is nothing, and answers n
     module _ {o : Outcome A} {x : List ℕ} {n : ℕ} (e : o ≡ answer a) (w : Wrote [] 0 (bytes a) x n) where
       measured : x ++ out ≡ out
-      measured = ap (λ (l : List ℕ). l ++ out) (w .stored ∙ stored-none 0 (bytes a))
+      measured = ap (λ (l : List ℕ). l ++ out) (w .stored ∙ sets-nil 0 (bytes a))
 
       size : n ≡ length (bytes a)
       size = w .next-is ∙ zero-add (length (bytes a))

@@ -1,9 +1,8 @@
 -- `ax25::encode::put_body` meets its contract.
 -- Assumes nothing.
 use native.Mathlib.Omega.{arith}
-use mathlib.Core.Path.{_≡_, ap, _∙_}
-use Prim.Native.Nat.{ℕ, _+_, _*_, _≤_}
-use lib.ListN.{length, drop}
+use mathlib.Core.Path.{_≡_, ap}
+use Prim.Native.Nat.{ℕ, _+_, _≤_}
 use lib.Dec.{eqb}
 use mathlib.Core.Bool.{_&&_}
 use denote.Ref.{now}
@@ -11,12 +10,10 @@ use Rattle.ax25_address.specs.declared.record.Record.{Record}
 use Rattle.ax25_address.specs.declared.classify.AprsType.{AprsType}
 use Rattle.ax25_address.specs.declared.classify.AprsType.the-variants.{ThirdParty}
 use Rattle.laws.specs.Pick.{pick}
-use Rattle.laws.specs.Wrote.{Wrote}
 use Rattle.ax25_address.specs.Kind.{typeNumber}
 use Rattle.ax25_address.specs.Record.{recordOf}
 use Rattle.ax25_address.proofs.DigiLaws.{end-size}
 use Rattle.ax25_address.proofs.RecordLaws.{known}
-use Rattle.ax25.proofs.HeadCode.{from}
 use Rattle.ax25.proofs.InfoLaws.{own-type, typed-room, start-room, text-does, binary-does, third-does, own-does}
 use borrow.Author.Needs.{needs}
 use Rattle.ax25.proofs.encode.put_body.Statement.{statement}
