@@ -22,6 +22,7 @@ ghost use Rattle.ax25.specs.Codes.{Codes};
 ghost use Rattle.ax25.specs.Encode.{digiCode, typeWidth, tokensBits, digiBits, headBits, infoBits, encodeOf};
 use ax25_address::address::addr_call;
 use ax25_address::classify::AprsType;
+use ax25_address::classify::code;
 use ax25_address::parse::addr_end;
 use ax25_address::record::Record;
 use ax25_address::record::call_len;
@@ -89,29 +90,15 @@ fn put_digis(f: &[u8], l: usize, n: usize, ap: bool, alias: usize, out: &mut [u8
     put_tokens(f, l, n, out, p)
 }
 
-// The number of a type.
-fn code(t: AprsType) -> u64
-    ensures { λ r. ⌜ r ≡ typeNumber t ⌝ }
-{
-    match t {
-        AprsType::Text => 0,
-        AprsType::Binary => 1,
-        AprsType::Position => 2,
-        AprsType::TimestampedPosition => 3,
-        AprsType::Message => 4,
-        AprsType::ThirdParty => 6,
-    }
-}
-
 // The type: three bits where the destination starts with AP, else one. The next position.
 fn put_type(t: AprsType, ap: bool, out: &mut [u8], at: usize) -> usize
     requires { ⌜ at < 2 ^ 62 ⌝ }
     ensures { λ r. ⌜ Wrote (unpack (now (out .entry))) at (bitsOf (typeWidth ap) (typeNumber t)) (unpack (now (out .exit))) r ⌝ }
 {
     if ap {
-        return push(out, at, code(t), 3);
+        return push(out, at, code(t) as u64, 3);
     }
-    push(out, at, code(t), 1)
+    push(out, at, code(t) as u64, 1)
 }
 
 // The bits before the body, behind the header byte: H bits, destination, source, digipeaters, type.

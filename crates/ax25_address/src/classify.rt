@@ -18,6 +18,20 @@ pub enum AprsType {
     ThirdParty,
 }
 
+// The number of a type.
+pub fn code(t: AprsType) -> u8
+    ensures { λ r. ⌜ r ≡ typeNumber t ⌝ }
+{
+    match t {
+        AprsType::Text => 0,
+        AprsType::Binary => 1,
+        AprsType::Position => 2,
+        AprsType::TimestampedPosition => 3,
+        AprsType::Message => 4,
+        AprsType::ThirdParty => 6,
+    }
+}
+
 // One of two bytes.
 fn one_of(x: u8, a: u8, b: u8) -> bool
     ensures { λ r. ⌜ r ≡ oneOf x a b ⌝ }

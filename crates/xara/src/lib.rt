@@ -13,7 +13,7 @@ ghost use Rattle.ax25_address.specs.Kind.{typeNumber};
 ghost use Rattle.kiss.specs.Codec.{codeOf, summaryOf, decodeOf};
 ghost use Rattle.kiss.specs.Told.{codeInto, decodeInto};
 ghost use Rattle.xara.specs.Told.{flag, told, controlOf, receiverOf, freshOf, afterOf, toldEncoded, toldSummary, toldDecoded};
-use ax25_address::classify::AprsType;
+use ax25_address::classify::code;
 use frame::Control;
 use kiss::Decoded;
 use kiss::Encoded;
@@ -196,20 +196,6 @@ fn heard(pushed: Pushed) -> XaraPushed
     }
 }
 
-// The number of a type.
-fn number(t: AprsType) -> u8
-    ensures { λ r. ⌜ r ≡ typeNumber t ⌝ }
-{
-    match t {
-        AprsType::Text => 0,
-        AprsType::Binary => 1,
-        AprsType::Position => 2,
-        AprsType::TimestampedPosition => 3,
-        AprsType::Message => 4,
-        AprsType::ThirdParty => 6,
-    }
-}
-
 // The CRC-16/GENIBUS of any bytes.
 #[no_mangle]
 pub extern "C" fn xara_crc16_genibus(data: &[u8]) -> u16
@@ -336,7 +322,7 @@ pub extern "C" fn xara_encode(command: u8, data: &[u8], out: &mut [u8]) -> XaraE
         Encoded::Bytes(length, aprs_type) => XaraEncoded {
             ok: true,
             refusal: 0,
-            aprs_type: number(aprs_type),
+            aprs_type: code(aprs_type),
             length,
         },
     }
@@ -360,7 +346,7 @@ pub extern "C" fn xara_summary(command: u8, data: &[u8]) -> XaraSummary
             XaraSummary {
                 ok: true,
                 refusal: 0,
-                aprs_type: number(aprs_type),
+                aprs_type: code(aprs_type),
                 ui: facts.ui,
                 digis: facts.digis,
             }

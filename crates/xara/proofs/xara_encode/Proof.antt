@@ -17,8 +17,8 @@ enum-known-refusal c = search needs
 enum-known-length : tie.Need-enum-known-length
 enum-known-length c = search needs
 
-number-requires : tie.Need-number-requires
-number-requires c κs = search needs
+code-requires : tie.Need-code-requires
+code-requires c κs = search needs
 
 same-length : tie.Need-same-length
 same-length c = search needs
@@ -34,7 +34,7 @@ same-length-2 c = search needs
 returns-2 : tie.Need-returns-2
 unfolding pick
 returns-2 c =
-    beside (with-type (c .number .ensures)) ∙ beside (sym (ap encodedOf (c .before .before .length .given .1))) ∙ c .before .before .before .before .before .before .encode .ensures
+    beside (with-type (c .code .ensures)) ∙ beside (sym (ap encodedOf (c .before .before .length .given .1))) ∙ c .before .before .before .before .before .before .encode .ensures
 
 pub xara-encode-spec : {M : Type 1} → statement M
 xara-encode-spec =
@@ -43,7 +43,7 @@ xara-encode-spec =
     encode-requires
     enum-known-refusal
     enum-known-length
-    number-requires
+    code-requires
     same-length
     returns
     same-length-2

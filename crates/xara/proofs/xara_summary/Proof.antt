@@ -17,8 +17,8 @@ enum-known-refusal c = search needs
 enum-known-facts : tie.Need-enum-known-facts
 enum-known-facts c = search needs
 
-number-requires : tie.Need-number-requires
-number-requires c κs = search needs
+code-requires : tie.Need-code-requires
+code-requires c κs = search needs
 
 returns : tie.Need-returns
 unfolding pick
@@ -27,7 +27,7 @@ returns c = sym (ap summarisedOf (c .before .refusal .given .1)) ∙ c .before .
 returns-2 : tie.Need-returns-2
 unfolding pick
 returns-2 c =
-    of-type (c .number .ensures) ∙ sym (ap summarisedOf (c .before .before .facts .given .1)) ∙ c .before .before .before .before .summary .ensures
+    of-type (c .code .ensures) ∙ sym (ap summarisedOf (c .before .before .facts .given .1)) ∙ c .before .before .before .before .summary .ensures
 
 pub xara-summary-spec : {M : Type 1} → statement M
 xara-summary-spec =
@@ -36,6 +36,6 @@ xara-summary-spec =
     summary-requires
     enum-known-refusal
     enum-known-facts
-    number-requires
+    code-requires
     returns
     returns-2)

@@ -24,6 +24,9 @@ one p e f w = rw (e, ← f) w
 code-requires : tie.Need-code-requires
 code-requires c κs = search needs
 
+cast-push : tie.Need-cast-push
+cast-push c = search needs
+
 push-requires : tie.Need-push-requires
 push-requires c κs = search needs
 
@@ -37,6 +40,9 @@ returns c =
 
 code-requires-2 : tie.Need-code-requires-2
 code-requires-2 c κs = search needs
+
+cast-push-2 : tie.Need-cast-push-2
+cast-push-2 c = search needs
 
 push-requires-2 : tie.Need-push-requires-2
 push-requires-2 c κs = search needs
@@ -54,10 +60,12 @@ put-type-spec =
     tie.close
     (tie.spec
     code-requires
+    cast-push
     push-requires
     same-length
     returns
     code-requires-2
+    cast-push-2
     push-requires-2
     same-length-2
     returns-2)
