@@ -1,1 +1,2 @@
-// A frame coded and decoded: the definitions and their laws.
+// A frame coded and decoded.
+pub mod encode;

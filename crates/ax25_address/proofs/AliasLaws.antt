@@ -57,13 +57,6 @@ call-text t x y z c d e r ec n ed ee er =
     let size : length (t ++ s) ≤ 16 = omega (arith, len, n, len-appended empty (t ++ s), ap (λ (k : Call). k .len) joined) in
     ap textOf joined ∙ text-back (t ++ s) size
 
--- `&bytes[0..len]`
-pub text-front : (c : Call) → take (c .len - 0) (c .bytes) ≡ textOf c
-unfolding textOf
-text-front c =
-    let z : c .len - 0 ≡ c .len = omega arith in
-    ap (λ (n : ℕ). take n (c .bytes)) z
-
 -- ---- the calls of n fields
 
 module _ (l n i k : ℕ) (d : List ℕ) where

@@ -5,4 +5,5 @@ pub mod DigiLaws
 pub mod LetterLaws
 pub mod ParseLaws
 pub mod PlaceLaws
+pub mod RecordLaws
 pub mod SizeLaws

@@ -1,4 +1,4 @@
--- Where the parts of a frame stand, and what the answer of `parse` says of them.
+-- Where the parts of a frame stand, and what the answer of `digipeaters` says of them.
 -- Assumes nothing.
 use mathlib.Core.Path.{_≡_, refl, sym, ap, ap₂, _∙_}
 use mathlib.Core.List.{List, [], _∷_, map}

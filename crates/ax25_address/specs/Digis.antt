@@ -1,4 +1,4 @@
--- The answer of `parse`, and the digipeaters that are left to count.
+-- The answer of `digipeaters`, and the digipeaters that are left to count.
 -- Assumes nothing.
 use mathlib.Core.List.{List}
 use mathlib.Core.Option.{Option, none, some}

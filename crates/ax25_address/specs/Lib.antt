@@ -3,4 +3,5 @@ pub mod Classify
 pub mod Digis
 pub mod Kind
 pub mod Parse
+pub mod Record
 pub mod Types

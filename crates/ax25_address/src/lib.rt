@@ -3,3 +3,4 @@ pub mod address;
 pub mod alias;
 pub mod classify;
 pub mod parse;
+pub mod record;

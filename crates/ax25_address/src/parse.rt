@@ -1,4 +1,4 @@
-// How many digipeaters a frame has, and where its address fields end: `parse` of the source.
+// How many digipeaters a frame has, and where its address fields end: that part of `parse` of the source.
 ghost use mathlib.Core.Path.{_≡_};
 ghost use Prim.Native.Nat.{_+_, _*_, _^_, _≤_, _<_};
 ghost use lib.ListN.{length};
@@ -39,7 +39,7 @@ fn digi_fields(frame: &[u8], l: usize) -> Digis
 }
 
 // How many digipeaters a frame has: up to an SSID byte with its low bit set, at most eight.
-pub fn parse(frame: &[u8], l: usize) -> Digis
+pub fn digipeaters(frame: &[u8], l: usize) -> Digis
     requires { ⌜ (l ≤ 7) × (length (now frame) < 2 ^ 60) ⌝ }
     ensures { λ r. ⌜ digisOf r ≡ countOf (parseOf l (now (frame .entry))) ⌝ }
 {

@@ -6,7 +6,7 @@ use mathlib.Core.Path.{_≡_, ap₂, _∙_}
 use Prim.Native.Nat.{_≤_}
 use lib.ListN.{length}
 use Rattle.laws.specs.Text.{same}
-use Rattle.ax25_address.proofs.AliasLaws.{text-front}
+use Rattle.ax25_token.proofs.CallLaws.{text-front}
 use Rattle.ax25_address.proofs.alias.same_call.Statement.{statement}
 use Rattle.ax25_address.proofs.alias.same_call.Tie as tie
 

@@ -1,4 +1,4 @@
--- `ax25_address::parse::parse` meets its contract, by what the count says.
+-- `ax25_address::parse::digipeaters` meets its contract, by what the count says.
 -- Assumes nothing.
 use borrow.Author.Needs.{needs}
 use native.Mathlib.Omega.{arith}
@@ -6,8 +6,8 @@ use mathlib.Core.Path.{sym, ap, _∙_}
 use denote.Ref.{now}
 use Rattle.ax25_address.specs.Digis.{digisOf}
 use Rattle.ax25_address.proofs.DigiLaws.{end-size, count-no, count-cut, count-few, count-end, count-is}
-use Rattle.ax25_address.proofs.parse.parse.Statement.{statement}
-use Rattle.ax25_address.proofs.parse.parse.Tie as tie
+use Rattle.ax25_address.proofs.parse.digipeaters.Statement.{statement}
+use Rattle.ax25_address.proofs.parse.digipeaters.Tie as tie
 
 addr-end-requires : tie.Need-addr-end-requires
 addr-end-requires c κs = search needs
@@ -62,8 +62,8 @@ returns-4 c =
     let told = sym (c .before .before .before .before .before .digi-fields .ensures) ∙ ap digisOf (c .before .before .before .n .given .1) in
     count-is (a .l) (now (a .frame)) (omega (arith, e .if1 .left, e .before .addr-end .ensures)) _ told (omega (arith, c .if2 .left, c .before .addr-end2 .ensures))
 
-pub parse-spec : {M : Type 1} → statement M
-parse-spec =
+pub digipeaters-spec : {M : Type 1} → statement M
+digipeaters-spec =
     tie.close
     (tie.spec
     addr-end-requires
