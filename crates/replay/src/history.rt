@@ -1,16 +1,16 @@
 // A history of calls on one receiver, all in one line.
 ghost use mathlib.Core.Path.{_≡_};
 ghost use lib.ListN.{length};
-use crate::answer::Outcome;
 use crate::answer::same_heard;
-use crate::answer::same_refusal;
-use crate::field::Number;
-use crate::field::all_hex;
-use crate::field::decimal;
-use crate::field::field;
-use crate::field::fields;
-use crate::field::hex;
-use crate::field::piece;
+use lines::answer::Outcome;
+use lines::answer::same_refusal;
+use lines::field::Number;
+use lines::field::all_hex;
+use lines::field::decimal;
+use lines::field::field;
+use lines::field::fields;
+use lines::field::hex;
+use lines::field::piece;
 use receiver::Fresh;
 use receiver::Pushed;
 use receiver::Reassembler;

@@ -1,21 +1,21 @@
 // The kinds of lines. A new kind is a function here, a row of `name`, a row of `run` and one more in `KINDS`.
 ghost use Prim.Native.Nat.{_≤_};
 ghost use lib.ListN.{length};
-use crate::answer::Outcome;
 use crate::answer::same_answer;
-use crate::answer::same_bytes;
 use crate::answer::same_counted;
 use crate::answer::same_got;
-use crate::answer::same_number;
 use crate::answer::same_taken;
-use crate::field::all_hex;
-use crate::field::field;
-use crate::field::fields;
-use crate::field::find;
-use crate::field::hex;
-use crate::field::numbers;
 use crate::history::history;
 use frame::Control;
+use lines::answer::Outcome;
+use lines::answer::same_bytes;
+use lines::answer::same_number;
+use lines::field::all_hex;
+use lines::field::field;
+use lines::field::find;
+use lines::field::hex;
+use lines::field::inputs;
+use lines::field::numbers;
 
 // How many kinds there are.
 pub const KINDS: usize = 12;
@@ -86,11 +86,9 @@ pub fn print_name(kind: usize) {
 
 // crc HEX CRC
 fn crc(line: &[u8]) -> Outcome {
-    if fields(line) != 3 {
-        return Outcome::Bad;
-    }
+    let mut v = [0u64; 0];
     let mut data = io::large_buffer();
-    let read = hex(field(line, 1), &mut data);
+    let read = inputs(line, &mut v, &mut data);
     if !read.good {
         return Outcome::Bad;
     }
@@ -168,15 +166,12 @@ fn two_words(line: &[u8]) -> Words
 // text V AT TEXT HEX: V in AT bits, then a text of seven bits a byte
 fn text(line: &[u8]) -> Outcome {
     let mut v = [0u64; 2];
-    if !numbers(line, 5, &mut v) {
+    let mut data = io::large_buffer();
+    let read = inputs(line, &mut v, &mut data);
+    if !read.good {
         return Outcome::Bad;
     }
     if 64 < v[1] {
-        return Outcome::Bad;
-    }
-    let mut data = io::large_buffer();
-    let read = hex(field(line, 3), &mut data);
-    if !read.good {
         return Outcome::Bad;
     }
     let n = read.n;
@@ -198,15 +193,12 @@ fn push_text(out: &mut [u8], v: u64, at: usize, text: &[u8]) -> usize
 // take AT N HEX VALUE: the number of N bits at AT
 fn take(line: &[u8]) -> Outcome {
     let mut v = [0u64; 2];
-    if !numbers(line, 5, &mut v) {
+    let mut data = io::large_buffer();
+    let read = inputs(line, &mut v, &mut data);
+    if !read.good {
         return Outcome::Bad;
     }
     if 64 < v[1] {
-        return Outcome::Bad;
-    }
-    let mut data = io::large_buffer();
-    let read = hex(field(line, 3), &mut data);
-    if !read.good {
         return Outcome::Bad;
     }
     let n = read.n;
@@ -217,15 +209,12 @@ fn take(line: &[u8]) -> Outcome {
 // digits AT N HEX VALUE: the number whose decimal digits are the N bits at AT
 fn digits(line: &[u8]) -> Outcome {
     let mut v = [0u64; 2];
-    if !numbers(line, 5, &mut v) {
+    let mut data = io::large_buffer();
+    let read = inputs(line, &mut v, &mut data);
+    if !read.good {
         return Outcome::Bad;
     }
     if 16 < v[1] {
-        return Outcome::Bad;
-    }
-    let mut data = io::large_buffer();
-    let read = hex(field(line, 3), &mut data);
-    if !read.good {
         return Outcome::Bad;
     }
     let n = read.n;
@@ -236,11 +225,8 @@ fn digits(line: &[u8]) -> Outcome {
 // text7 AT HEX TEXT: the text of seven bits a byte from AT on
 fn text7(line: &[u8]) -> Outcome {
     let mut v = [0u64; 1];
-    if !numbers(line, 4, &mut v) {
-        return Outcome::Bad;
-    }
     let mut data = io::large_buffer();
-    let read = hex(field(line, 2), &mut data);
+    let read = inputs(line, &mut v, &mut data);
     if !read.good {
         return Outcome::Bad;
     }
@@ -252,11 +238,9 @@ fn text7(line: &[u8]) -> Outcome {
 
 // val HEX NUMBER
 fn val(line: &[u8]) -> Outcome {
-    if fields(line) != 3 {
-        return Outcome::Bad;
-    }
+    let mut v = [0u64; 0];
     let mut data = io::large_buffer();
-    let read = hex(field(line, 1), &mut data);
+    let read = inputs(line, &mut v, &mut data);
     if !read.good {
         return Outcome::Bad;
     }

@@ -1,14 +1,14 @@
 // Reads recorded calls from standard input, makes each again with our functions, and says where the answers differ.
 // A line of the input is one call: its kind, what goes in, and last the recorded answer. A line that starts with # is a comment.
 mod answer;
-mod field;
 mod history;
 mod kinds;
 
 ghost use mathlib.Core.Path.{_≡_};
 ghost use lib.ListN.{length};
-use answer::Outcome;
 use kinds::KINDS;
+use lines::answer::Outcome;
+use lines::field::find;
 
 // Room for the input. The contract gives only the length, so that no caller's proof unfolds the array.
 // Not optimized, as `rt try` runs it too, the program makes copies of the room that overflow a stack of 8 MiB.
@@ -44,7 +44,7 @@ fn replay(s: &[u8]) {
     let mut at: usize = 0;
     let mut number: u64 = 0;
     while at < s.len() {
-        let end = field::find(s, at, b'\n');
+        let end = find(s, at, b'\n');
         number += 1;
         line(&s[at..end], number, &mut equal, &mut differ);
         at = end + 1;

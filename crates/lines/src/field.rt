@@ -181,3 +181,15 @@ fn digits(text: &[u8], n: usize, out: &mut [u8]) -> bool
     }
     true
 }
+
+// Reads a line of numbers, bytes and an answer: fills `v` with the numbers, and puts the bytes at the start of `out`.
+// Not good where the line is another.
+pub fn inputs(line: &[u8], v: &mut [u64], out: &mut [u8]) -> Bytes
+    ensures { λ r. ⌜ r .n ≤ length (now (out .exit)) ⌝ }
+{
+    let n = v.len();
+    if !numbers(line, n + 3, v) {
+        return Bytes { good: false, n: 0 };
+    }
+    hex(field(line, n + 1), out)
+}
