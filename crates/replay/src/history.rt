@@ -60,39 +60,58 @@ fn calls(line: &[u8], receiver: Reassembler) -> Outcome {
     Outcome::Equal
 }
 
-// One call: p:FIELD:HEX=ANSWER is a push, j:N:HEX=ANSWER a join, r a reset.
+// One call: r is a reset, p:FIELD:HEX=ANSWER a push, j:N:HEX=ANSWER a join.
 fn call(receiver: Reassembler, space: &mut [u8], text: &[u8]) -> Step {
-    let what = piece(text, 0, b'=');
-    let kind = piece(what, 0, b':');
-    if check::same(kind, b"r") {
+    if check::same(text, b"r") {
         return Step {
             outcome: Outcome::Equal,
             receiver: receiver.reset(),
         };
     }
-    let bad = Step {
-        outcome: Outcome::Bad,
-        receiver,
-    };
+    hear(receiver, space, piece(text, 0, b'='), piece(text, 1, b'='))
+}
+
+// Reads a push or a join and makes it.
+fn hear(receiver: Reassembler, space: &mut [u8], what: &[u8], answer: &[u8]) -> Step {
     let mut data = io::large_buffer();
     let read = hex(piece(what, 2, b':'), &mut data);
     if !read.good {
-        return bad;
+        return bad(receiver);
     }
     let size = read.n;
     let Number::Is(n) = decimal(piece(what, 1, b':')) else {
-        return bad;
+        return bad(receiver);
     };
-    let answer = piece(text, 1, b'=');
+    let kind = piece(what, 0, b':');
+    take_in(receiver, space, kind, &data[0..size], n as usize, answer)
+}
+
+// Makes a push or a join.
+fn take_in(
+    receiver: Reassembler,
+    space: &mut [u8],
+    kind: &[u8],
+    data: &[u8],
+    n: usize,
+    answer: &[u8],
+) -> Step {
     if check::same(kind, b"p") {
-        let pushed = receiver.push(space, &data[0..size], n as usize);
+        let pushed = receiver.push(space, data, n);
         return told(answer, space, pushed);
     }
     if check::same(kind, b"j") {
-        let pushed = receiver.join(space, &data[0..size], n as usize);
+        let pushed = receiver.join(space, data, n);
         return told(answer, space, pushed);
     }
-    bad
+    bad(receiver)
+}
+
+// A call that is not understood.
+fn bad(receiver: Reassembler) -> Step {
+    Step {
+        outcome: Outcome::Bad,
+        receiver,
+    }
 }
 
 // What came of a push or a join.

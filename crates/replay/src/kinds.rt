@@ -1,4 +1,4 @@
-// The kinds of lines. A new kind is a function here, a row of `name`, a row of `run` and one more in `KINDS`.
+// The kinds of lines. A new kind is a function, a name, a row of `run` or `call`, and one more in `KINDS`.
 ghost use Prim.Native.Nat.{_≤_};
 ghost use lib.ListN.{length};
 use crate::answer::same_answer;
@@ -12,48 +12,65 @@ use lines::answer::same_bytes;
 use lines::answer::same_number;
 use lines::field::all_hex;
 use lines::field::field;
-use lines::field::find;
 use lines::field::hex;
 use lines::field::inputs;
 use lines::field::numbers;
+use lines::field::piece;
 
 // How many kinds there are.
 pub const KINDS: usize = 12;
 
-// The name of a kind, with blanks behind it.
-fn name(kind: usize) -> [u8; 12] {
-    match kind {
-        0 => *b"crc         ",
-        1 => *b"push        ",
-        2 => *b"bfi         ",
-        3 => *b"text        ",
-        4 => *b"take        ",
-        5 => *b"digits      ",
-        6 => *b"text7       ",
-        7 => *b"val         ",
-        8 => *b"count       ",
-        9 => *b"fragment    ",
-        10 => *b"frame       ",
-        11 => *b"history     ",
-        _ => *b"            ",
-    }
-}
+// Their names, in order.
+const NAMES: [u8; 68] = *b"crc push bfi text take digits text7 val count fragment frame history";
 
 // Makes the call of a line again and compares the answers.
 pub fn run(kind: usize, line: &[u8]) -> Outcome {
     match kind {
-        0 => crc(line),
         1 => push(line),
         2 => bfi(line),
-        3 => text(line),
-        4 => take(line),
-        5 => digits(line),
-        6 => text7(line),
-        7 => val(line),
         8 => count(line),
         9 => fragment(line),
         10 => frame(line),
         11 => history(line),
+        _ => plain(kind, line),
+    }
+}
+
+// How many numbers stand before the bytes in a line of numbers, bytes and an answer.
+fn numbers_of(kind: usize) -> usize
+    ensures { λ r. ⌜ r ≤ 2 ⌝ }
+{
+    match kind {
+        3 | 4 | 5 => 2,
+        6 => 1,
+        _ => 0,
+    }
+}
+
+// Reads a line of numbers, bytes and an answer, and makes its call.
+fn plain(kind: usize, line: &[u8]) -> Outcome {
+    let k = numbers_of(kind);
+    let mut v = [0u64; 2];
+    let mut data = io::large_buffer();
+    let read = inputs(line, &mut v[0..k], &mut data);
+    if !read.good {
+        return Outcome::Bad;
+    }
+    let n = read.n;
+    call(kind, v[0], v[1], &data[0..n], field(line, k + 2))
+}
+
+// Makes the call of a kind whose lines have numbers, bytes and an answer.
+fn call(kind: usize, v: u64, w: u64, s: &[u8], answer: &[u8]) -> Outcome
+    requires { ⌜ length (now s) ≤ 65536 ⌝ }
+{
+    match kind {
+        0 => crc(s, answer),
+        3 => text(v, w, s, answer),
+        4 => take(v, w, s, answer),
+        5 => digits(v, w, s, answer),
+        6 => text7(v, s, answer),
+        7 => same_number(answer, bits::vb_val(s)),
         _ => Outcome::Bad,
     }
 }
@@ -72,29 +89,18 @@ pub fn kind_of(line: &[u8]) -> usize {
 
 // Whether a line names this kind.
 fn is_kind(line: &[u8], kind: usize) -> bool {
-    let padded = name(kind);
-    let n = find(&padded, 0, b' ');
-    check::same(field(line, 0), &padded[0..n])
+    check::same(field(line, 0), piece(&NAMES, kind, b' '))
 }
 
 // Writes the name of a kind.
 pub fn print_name(kind: usize) {
-    let padded = name(kind);
-    let n = find(&padded, 0, b' ');
-    io::write_all(1, &padded[0..n]);
+    io::write_all(1, piece(&NAMES, kind, b' '));
 }
 
 // crc HEX CRC
-fn crc(line: &[u8]) -> Outcome {
-    let mut v = [0u64; 0];
-    let mut data = io::large_buffer();
-    let read = inputs(line, &mut v, &mut data);
-    if !read.good {
-        return Outcome::Bad;
-    }
-    let n = read.n;
-    let c = crc::crc16_genibus(&data[0..n]);
-    same_bytes(field(line, 2), &[(c / 256) as u8, (c % 256) as u8])
+fn crc(data: &[u8], answer: &[u8]) -> Outcome {
+    let c = crc::crc16_genibus(data);
+    same_bytes(answer, &[(c / 256) as u8, (c % 256) as u8])
 }
 
 // push V AT W N HEX: V in AT bits, then the low N bits of W
@@ -164,20 +170,15 @@ fn two_words(line: &[u8]) -> Words
 }
 
 // text V AT TEXT HEX: V in AT bits, then a text of seven bits a byte
-fn text(line: &[u8]) -> Outcome {
-    let mut v = [0u64; 2];
-    let mut data = io::large_buffer();
-    let read = inputs(line, &mut v, &mut data);
-    if !read.good {
+fn text(v: u64, at: u64, s: &[u8], answer: &[u8]) -> Outcome
+    requires { ⌜ length (now s) ≤ 65536 ⌝ }
+{
+    if 64 < at {
         return Outcome::Bad;
     }
-    if 64 < v[1] {
-        return Outcome::Bad;
-    }
-    let n = read.n;
     let mut out = io::large_buffer();
-    let end = push_text(&mut out, v[0], v[1] as usize, &data[0..n]);
-    same_bytes(field(line, 4), &out[0..end])
+    let end = push_text(&mut out, v, at as usize, s);
+    same_bytes(answer, &out[0..end])
 }
 
 // Makes the calls of a text line. How many bytes were written: the pad goes up to a whole byte.
@@ -191,61 +192,32 @@ fn push_text(out: &mut [u8], v: u64, at: usize, text: &[u8]) -> usize
 }
 
 // take AT N HEX VALUE: the number of N bits at AT
-fn take(line: &[u8]) -> Outcome {
-    let mut v = [0u64; 2];
-    let mut data = io::large_buffer();
-    let read = inputs(line, &mut v, &mut data);
-    if !read.good {
+fn take(at: u64, n: u64, s: &[u8], answer: &[u8]) -> Outcome
+    requires { ⌜ length (now s) ≤ 65536 ⌝ }
+{
+    if 64 < n {
         return Outcome::Bad;
     }
-    if 64 < v[1] {
-        return Outcome::Bad;
-    }
-    let n = read.n;
-    let ours = bits::read::take(&data[0..n], v[0] as usize, v[1] as usize);
-    same_taken(field(line, 4), ours)
+    same_taken(answer, bits::read::take(s, at as usize, n as usize))
 }
 
 // digits AT N HEX VALUE: the number whose decimal digits are the N bits at AT
-fn digits(line: &[u8]) -> Outcome {
-    let mut v = [0u64; 2];
-    let mut data = io::large_buffer();
-    let read = inputs(line, &mut v, &mut data);
-    if !read.good {
+fn digits(at: u64, n: u64, s: &[u8], answer: &[u8]) -> Outcome
+    requires { ⌜ length (now s) ≤ 65536 ⌝ }
+{
+    if 16 < n {
         return Outcome::Bad;
     }
-    if 16 < v[1] {
-        return Outcome::Bad;
-    }
-    let n = read.n;
-    let ours = bits::read::text(&data[0..n], v[0] as usize, v[1] as usize);
-    same_taken(field(line, 4), ours)
+    same_taken(answer, bits::read::text(s, at as usize, n as usize))
 }
 
 // text7 AT HEX TEXT: the text of seven bits a byte from AT on
-fn text7(line: &[u8]) -> Outcome {
-    let mut v = [0u64; 1];
-    let mut data = io::large_buffer();
-    let read = inputs(line, &mut v, &mut data);
-    if !read.good {
-        return Outcome::Bad;
-    }
-    let n = read.n;
+fn text7(at: u64, s: &[u8], answer: &[u8]) -> Outcome
+    requires { ⌜ length (now s) ≤ 65536 ⌝ }
+{
     let mut out = io::large_buffer();
-    let ours = bits::read::text7(&data[0..n], v[0] as usize, &mut out, 0);
-    same_got(field(line, 3), &out, ours)
-}
-
-// val HEX NUMBER
-fn val(line: &[u8]) -> Outcome {
-    let mut v = [0u64; 0];
-    let mut data = io::large_buffer();
-    let read = inputs(line, &mut v, &mut data);
-    if !read.good {
-        return Outcome::Bad;
-    }
-    let n = read.n;
-    same_number(field(line, 2), bits::vb_val(&data[0..n]))
+    let ours = bits::read::text7(s, at as usize, &mut out, 0);
+    same_got(answer, &out, ours)
 }
 
 // count TOTAL FIELD ANSWER
