@@ -71,6 +71,11 @@ pub fn fields(line: &[u8]) -> usize {
     n
 }
 
+// The last field, which has the answer.
+pub fn last(line: &[u8]) -> &[u8] {
+    field(line, std::num::wrapping_sub_usize(fields(line), 1))
+}
+
 // A number with one more digit behind it.
 fn with_digit(v: u64, c: u8) -> Number {
     if c < b'0' || b'9' < c {
@@ -182,14 +187,23 @@ fn digits(text: &[u8], n: usize, out: &mut [u8]) -> bool
     true
 }
 
-// Reads a line of numbers, bytes and an answer: fills `v` with the numbers, and puts the bytes at the start of `out`.
-// Not good where the line is another.
-pub fn inputs(line: &[u8], v: &mut [u64], out: &mut [u8]) -> Bytes
+// Reads a line of numbers, a few bytes where `few` has room for any, bytes and an answer: fills `v` and `few`, and puts the
+// bytes at the start of `out`. Not good where the line is another.
+pub fn inputs(line: &[u8], v: &mut [u64], few: &mut [u8], out: &mut [u8]) -> Bytes
     ensures { λ r. ⌜ r .n ≤ length (now (out .exit)) ⌝ }
 {
     let n = v.len();
-    if !numbers(line, n + 3, v) {
+    if few.len() == 0 {
+        if !numbers(line, n + 3, v) {
+            return Bytes { good: false, n: 0 };
+        }
+        return hex(field(line, n + 1), out);
+    }
+    if !numbers(line, n + 4, v) {
         return Bytes { good: false, n: 0 };
     }
-    hex(field(line, n + 1), out)
+    if !all_hex(field(line, n + 1), few) {
+        return Bytes { good: false, n: 0 };
+    }
+    hex(field(line, n + 2), out)
 }

@@ -10,10 +10,9 @@ use frame::Control;
 use lines::answer::Outcome;
 use lines::answer::same_bytes;
 use lines::answer::same_number;
-use lines::field::all_hex;
 use lines::field::field;
-use lines::field::hex;
 use lines::field::inputs;
+use lines::field::last;
 use lines::field::numbers;
 use lines::field::piece;
 
@@ -29,49 +28,88 @@ pub fn run(kind: usize, line: &[u8]) -> Outcome {
         1 => push(line),
         2 => bfi(line),
         8 => count(line),
-        9 => fragment(line),
-        10 => frame(line),
         11 => history(line),
         _ => plain(kind, line),
     }
 }
 
-// How many numbers stand before the bytes in a line of numbers, bytes and an answer.
+// How many numbers stand behind the kind in a line of numbers, a few bytes, bytes and an answer.
 fn numbers_of(kind: usize) -> usize
-    ensures { λ r. ⌜ r ≤ 2 ⌝ }
+    ensures { λ r. ⌜ r ≤ 3 ⌝ }
 {
     match kind {
-        3 | 4 | 5 => 2,
         6 => 1,
+        3 | 4 | 5 | 10 => 2,
+        9 => 3,
         _ => 0,
     }
 }
 
-// Reads a line of numbers, bytes and an answer, and makes its call.
+// How many bytes are the few.
+fn few_of(kind: usize) -> usize
+    ensures { λ r. ⌜ r ≤ 4 ⌝ }
+{
+    match kind {
+        9 => 1,
+        10 => 4,
+        _ => 0,
+    }
+}
+
+// Reads a line of numbers, a few bytes, bytes and an answer, and makes its call.
 fn plain(kind: usize, line: &[u8]) -> Outcome {
     let k = numbers_of(kind);
-    let mut v = [0u64; 2];
+    let m = few_of(kind);
+    let mut v = [0u64; 3];
+    let mut few = [0u8; 4];
     let mut data = io::large_buffer();
-    let read = inputs(line, &mut v[0..k], &mut data);
+    let read = inputs(line, &mut v[0..k], &mut few[0..m], &mut data);
     if !read.good {
         return Outcome::Bad;
     }
     let n = read.n;
-    call(kind, v[0], v[1], &data[0..n], field(line, k + 2))
+    call(kind, &v, &few, &data[0..n], last(line))
 }
 
-// Makes the call of a kind whose lines have numbers, bytes and an answer.
-fn call(kind: usize, v: u64, w: u64, s: &[u8], answer: &[u8]) -> Outcome
+// Makes the call of a line that was read.
+fn call(kind: usize, v: &[u64; 3], few: &[u8; 4], s: &[u8], answer: &[u8]) -> Outcome
     requires { ⌜ length (now s) ≤ 65536 ⌝ }
 {
     match kind {
         0 => crc(s, answer),
-        3 => text(v, w, s, answer),
-        4 => take(v, w, s, answer),
-        5 => digits(v, w, s, answer),
-        6 => text7(v, s, answer),
+        3 => text(v[0], v[1], s, answer),
+        4 => take(v[0], v[1], s, answer),
+        5 => digits(v[0], v[1], s, answer),
+        6 => text7(v[0], s, answer),
         7 => same_number(answer, bits::vb_val(s)),
+        9 => within(kind, v[2], v, few, s, answer),
+        10 => within(kind, v[1], v, few, s, answer),
         _ => Outcome::Bad,
+    }
+}
+
+// Makes a call that writes to an output of so many bytes.
+fn within(kind: usize, room: u64, v: &[u64; 3], few: &[u8; 4], s: &[u8], answer: &[u8]) -> Outcome {
+    let mut out = io::large_buffer();
+    let n = room as usize;
+    if out.len() < n {
+        return Outcome::Bad;
+    }
+    write(kind, v, few, s, answer, &mut out[0..n])
+}
+
+// Makes a call that writes to `out`.
+fn write(
+    kind: usize,
+    v: &[u64; 3],
+    few: &[u8; 4],
+    s: &[u8],
+    answer: &[u8],
+    out: &mut [u8],
+) -> Outcome {
+    match kind {
+        9 => fragment(v[0], v[1], few[0], s, answer, out),
+        _ => frame(v[0], few, s, answer, out),
     }
 }
 
@@ -233,72 +271,18 @@ fn count(line: &[u8]) -> Outcome {
 }
 
 // fragment FIELD K ROOM MASK HEX ANSWER: fragment K of a message, to an output of ROOM bytes
-fn fragment(line: &[u8]) -> Outcome {
-    let mut v = [0u64; 3];
-    if !numbers(line, 7, &mut v) {
-        return Outcome::Bad;
-    }
-    let mut mask = [0u8; 1];
-    if !all_hex(field(line, 4), &mut mask) {
-        return Outcome::Bad;
-    }
-    let mut out = io::large_buffer();
-    let room = v[2] as usize;
-    if out.len() < room {
-        return Outcome::Bad;
-    }
-    send(
-        line,
-        v[0] as usize,
-        v[1] as usize,
-        mask[0],
-        &mut out[0..room],
-    )
-}
-
-// Makes the call of a fragment line.
-fn send(line: &[u8], size: usize, k: usize, mask: u8, out: &mut [u8]) -> Outcome {
-    let mut message = io::large_buffer();
-    let read = hex(field(line, 5), &mut message);
-    if !read.good {
-        return Outcome::Bad;
-    }
-    let n = read.n;
-    let ours = sender::fragment(&message[0..n], size, mask, k, out);
-    same_answer(field(line, 6), out, ours)
+fn fragment(size: u64, k: u64, mask: u8, s: &[u8], answer: &[u8], out: &mut [u8]) -> Outcome {
+    let ours = sender::fragment(s, size as usize, mask, k as usize, out);
+    same_answer(answer, out, ours)
 }
 
 // frame FIELD ROOM BYTES HEX ANSWER: the frame of a fragment, to an output of ROOM bytes; BYTES are reply, compressed, hint and marker
-fn frame(line: &[u8]) -> Outcome {
-    let mut v = [0u64; 2];
-    if !numbers(line, 6, &mut v) {
-        return Outcome::Bad;
-    }
-    let mut out = io::large_buffer();
-    let room = v[1] as usize;
-    if out.len() < room {
-        return Outcome::Bad;
-    }
-    build(line, v[0] as usize, &mut out[0..room])
-}
-
-// Makes the call of a frame line.
-fn build(line: &[u8], size: usize, out: &mut [u8]) -> Outcome {
-    let mut b = [0u8; 4];
-    if !all_hex(field(line, 3), &mut b) {
-        return Outcome::Bad;
-    }
-    let mut data = io::large_buffer();
-    let read = hex(field(line, 4), &mut data);
-    if !read.good {
-        return Outcome::Bad;
-    }
-    let n = read.n;
+fn frame(size: u64, b: &[u8; 4], s: &[u8], answer: &[u8], out: &mut [u8]) -> Outcome {
     let control = Control {
         reply: b[0],
         compressed: b[1] != 0,
         hint: b[2],
     };
-    let ours = frame::build_frame(size, &data[0..n], control, b[3], out);
-    same_answer(field(line, 5), out, ours)
+    let ours = frame::build_frame(size as usize, s, control, b[3], out);
+    same_answer(answer, out, ours)
 }
