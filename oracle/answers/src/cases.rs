@@ -101,7 +101,7 @@ fn types() -> Vec<Data> {
 }
 
 /// The refusals 1 to 5, one after the other and two at once.
-fn refused() -> Vec<Data> {
+pub fn refused() -> Vec<Data> {
     let mut all = vec![(3, vec![]), (255, b"A".to_vec()), (3, frame(CQ, K1A, &[], b"A").1)];
     let (_, three) = frame(("B@D", 0), K1A, &[("b@d", 1), CQ, ("WIDE1", 1)], b"A");
     for n in 0..three.len() {
@@ -179,7 +179,7 @@ fn letters() -> Vec<Data> {
 }
 
 /// Every number of digipeaters, the aliases, what is nearly an alias, and a ninth.
-fn digipeaters() -> Vec<Data> {
+pub fn digipeaters() -> Vec<Data> {
     const NUMBERED: [[&str; 8]; 5] = [
         ["WIDE1", "WIDE2", "WIDE3", "WIDE4", "WIDE5", "WIDE6", "WIDE7", "WIDE8"],
         ["PNW1", "PNW2", "PNW3", "PNW4", "PNW5", "PNW6", "PNW7", "PNW8"],
@@ -234,6 +234,9 @@ fn controls() -> Vec<Data> {
             all.push((0, [&head(APRS, K1A, &[], 6)[..], &control, body.as_bytes()].concat()));
         }
         all.push((0, [&head(CQ, K1A, &[CQ], 6)[..], &[0x3F, 0xF0], body.as_bytes()].concat()));
+    }
+    for control in [[0x93, 0xF0], [0x03, 0x70], [0x7F, 0x7F], [0x80, 0x80]] {
+        all.push((0, [&head(CQ, K1A, &[], 6)[..], &control, b"x"].concat()));
     }
     all
 }
@@ -477,7 +480,7 @@ pub fn longest(r: &mut Random) -> Vec<Data> {
     let eight = r.bytes(MAX_DATA);
     let seven: Vec<u8> = eight.iter().map(|b| b & 0x7F).collect();
     let (_, mut text) = frame(APRS, K1A, &[("K2B", 9); 3], &seven);
-    let (_, mut binary) = frame(CQ, K1A, &[], &eight);
+    let (_, mut binary) = long(CQ, K1A, &[], &eight);
     text.truncate(MAX_DATA);
     binary.truncate(MAX_DATA);
     let more = vec![0x41; MAX_DATA + 1];

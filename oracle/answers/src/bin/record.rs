@@ -606,7 +606,7 @@ fn message(r: &mut Random, total: usize) -> Vec<u8> {
 fn encode(out: &mut String) {
     *out += "\
 # encode CMD ROOM HEX ANSWER: data coded under a command, to an output of ROOM bytes; an answer is TYPE:HEX or refused:N.
-# Every type and refusal, calls and bodies of every odd kind, a text at every place of a bit, the longest, then drawn ones.
+# Every type and refusal, calls and bodies of every odd kind, a text at every place of a bit, drawn ones, the longest.
 ";
     let mut r = Random::new(SEED, "encode");
     for (k, (command, data)) in cases::all(&mut r).into_iter().enumerate() {
@@ -631,12 +631,10 @@ fn encode_line(out: &mut String, command: u8, data: &[u8], room: usize) {
 fn summary(out: &mut String) {
     *out += "# summary CMD HEX ANSWER: type, digipeaters and 1 where control is 03, as TYPE:DIGIS:UI, or refused:N.\n";
     let mut r = Random::new(SEED, "summary");
-    let drawn = drawn_data(&mut r, 200);
     let short = |(_, data): &(u8, Vec<u8>)| data.len() < 60;
-    for (command, data) in cases::all(&mut r).into_iter().filter(short).step_by(2).chain(drawn) {
-        summary_line(out, command, &data);
-    }
-    for (command, data) in cases::longest(&mut r).into_iter().skip(3) {
+    let some = cases::all(&mut r).into_iter().filter(short).step_by(4);
+    let all = cases::refused().into_iter().chain(cases::digipeaters()).chain(some);
+    for (command, data) in all.chain(drawn_data(&mut r, 200)).chain(cases::longest(&mut r).into_iter().skip(3)) {
         summary_line(out, command, &data);
     }
 }
