@@ -207,3 +207,66 @@ pub fn inputs(line: &[u8], v: &mut [u64], few: &mut [u8], out: &mut [u8]) -> Byt
     }
     hex(field(line, n + 2), out)
 }
+
+// V AT W N of a line; not good where a width is more than a word's.
+pub struct Words {
+    pub good: bool,
+    pub v: u64,
+    pub at: usize,
+    pub w: u64,
+    pub n: usize,
+}
+
+// Reads the numbers of a push or bfi line.
+pub fn two_words(line: &[u8]) -> Words
+    ensures { λ r. ⌜ (r .at ≤ 64) × (r .n ≤ 64) ⌝ }
+{
+    let bad = Words {
+        good: false,
+        v: 0,
+        at: 0,
+        w: 0,
+        n: 0,
+    };
+    let mut v = [0u64; 4];
+    if !numbers(line, 6, &mut v) {
+        return bad;
+    }
+    if 64 < v[1] {
+        return bad;
+    }
+    if 64 < v[3] {
+        return bad;
+    }
+    Words {
+        good: true,
+        v: v[0],
+        at: v[1] as usize,
+        w: v[2],
+        n: v[3] as usize,
+    }
+}
+
+// What goes into a call KIND:N:HEX of a history; not good where it is another text.
+pub struct Given {
+    pub good: bool,
+    pub n: u64,
+    pub size: usize,
+}
+
+// Reads a call of a history, and puts its bytes at the start of `out`.
+pub fn call_of(text: &[u8], out: &mut [u8]) -> Given
+    ensures { λ r. ⌜ r .size ≤ length (now (out .exit)) ⌝ }
+{
+    let read = hex(piece(text, 2, b':'), out);
+    let size = read.n;
+    let good = read.good;
+    let Number::Is(n) = decimal(piece(text, 1, b':')) else {
+        return Given {
+            good: false,
+            n: 0,
+            size,
+        };
+    };
+    Given { good, n, size }
+}

@@ -4,12 +4,10 @@ ghost use lib.ListN.{length};
 use crate::answer::same_heard;
 use lines::answer::Outcome;
 use lines::answer::same_refusal;
-use lines::field::Number;
 use lines::field::all_hex;
-use lines::field::decimal;
+use lines::field::call_of;
 use lines::field::field;
 use lines::field::fields;
-use lines::field::hex;
 use lines::field::piece;
 use receiver::Fresh;
 use receiver::Pushed;
@@ -74,16 +72,20 @@ fn call(receiver: Reassembler, space: &mut [u8], text: &[u8]) -> Step {
 // Reads a push or a join and makes it.
 fn hear(receiver: Reassembler, space: &mut [u8], what: &[u8], answer: &[u8]) -> Step {
     let mut data = io::large_buffer();
-    let read = hex(piece(what, 2, b':'), &mut data);
-    if !read.good {
+    let call = call_of(what, &mut data);
+    if !call.good {
         return bad(receiver);
     }
-    let size = read.n;
-    let Number::Is(n) = decimal(piece(what, 1, b':')) else {
-        return bad(receiver);
-    };
+    let size = call.size;
     let kind = piece(what, 0, b':');
-    take_in(receiver, space, kind, &data[0..size], n as usize, answer)
+    take_in(
+        receiver,
+        space,
+        kind,
+        &data[0..size],
+        call.n as usize,
+        answer,
+    )
 }
 
 // Makes a push or a join.

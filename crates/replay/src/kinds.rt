@@ -15,6 +15,7 @@ use lines::field::inputs;
 use lines::field::last;
 use lines::field::numbers;
 use lines::field::piece;
+use lines::field::two_words;
 
 // How many kinds there are.
 pub const KINDS: usize = 12;
@@ -166,45 +167,6 @@ fn bfi(line: &[u8]) -> Outcome {
     let mid = bits::write::push(&mut out, 0, r.v, r.at);
     let end = (bits::write::push_bfi(&mut out, mid, r.w, r.n) + 7) / 8;
     same_bytes(field(line, 5), &out[0..end])
-}
-
-// V AT W N of a line; not good where a width is more than a word's.
-struct Words {
-    good: bool,
-    v: u64,
-    at: usize,
-    w: u64,
-    n: usize,
-}
-
-// Reads the numbers of a push or bfi line.
-fn two_words(line: &[u8]) -> Words
-    ensures { λ r. ⌜ (r .at ≤ 64) × (r .n ≤ 64) ⌝ }
-{
-    let bad = Words {
-        good: false,
-        v: 0,
-        at: 0,
-        w: 0,
-        n: 0,
-    };
-    let mut v = [0u64; 4];
-    if !numbers(line, 6, &mut v) {
-        return bad;
-    }
-    if 64 < v[1] {
-        return bad;
-    }
-    if 64 < v[3] {
-        return bad;
-    }
-    Words {
-        good: true,
-        v: v[0],
-        at: v[1] as usize,
-        w: v[2],
-        n: v[3] as usize,
-    }
 }
 
 // text V AT TEXT HEX: V in AT bits, then a text of seven bits a byte

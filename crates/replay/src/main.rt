@@ -9,6 +9,9 @@ ghost use lib.ListN.{length};
 use kinds::KINDS;
 use lines::answer::Outcome;
 use lines::field::find;
+use lines::tell::is_comment;
+use lines::tell::print_counts;
+use lines::tell::print_place;
 
 // Room for the input. The contract gives only the length, so that no caller's proof unfolds the array.
 // Not optimized, as `rt try` runs it too, the program makes copies of the room that overflow a stack of 8 MiB.
@@ -73,25 +76,11 @@ fn line(s: &[u8], number: u64, equal: &mut [u64; KINDS], differ: &mut [u64; KIND
     }
 }
 
-fn is_comment(s: &[u8]) -> bool {
-    if s.len() == 0 {
-        return false;
-    }
-    s[0] == b'#'
-}
-
 // One more of a kind. No input is long enough for the count to wrap.
 fn count(counts: &mut [u64; KINDS], kind: usize) {
     if kind < KINDS {
         counts[kind] = std::num::wrapping_add_u64(counts[kind], 1);
     }
-}
-
-// The start of what is said of a line.
-fn print_place(number: u64) {
-    io::write_all(1, b"line ");
-    io::print_decimal(1, number);
-    io::write_all(1, b": ");
 }
 
 // Writes the counts, a line for each kind.
@@ -102,17 +91,4 @@ fn report(equal: &[u64; KINDS], differ: &[u64; KINDS]) {
         print_counts(equal[kind], differ[kind]);
         kind += 1;
     }
-}
-
-// How many calls of a kind were equal, and how many differ where any does.
-fn print_counts(equal: u64, differ: u64) {
-    io::write_all(1, b" ");
-    io::print_decimal(1, equal);
-    io::write_all(1, b" equal");
-    if 0 < differ {
-        io::write_all(1, b", ");
-        io::print_decimal(1, differ);
-        io::write_all(1, b" differ");
-    }
-    io::write_all(1, b"\n");
 }

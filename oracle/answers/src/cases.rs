@@ -612,7 +612,7 @@ fn places_to_decode(r: &mut Random) -> Vec<Vec<u8>> {
                 m.push(0x61, 7);
             }
             m.push(1, 7);
-            if (m.bits.len() + bits) % 8 == 0 {
+            if (m.bits.len() + bits).is_multiple_of(8) {
                 all.push(m.push(if letters % 2 == 0 { u64::MAX } else { r.number() }, bits).pack());
             }
         }
