@@ -651,8 +651,10 @@ fn decode(out: &mut String) {
 ";
     let mut r = Random::new(SEED, "decode");
     let coded: Vec<Vec<u8>> = cases::all(&mut r).iter().filter_map(|(command, d)| message_of(*command, d)).collect();
-    for message in coded.iter().step_by(2).chain(&cases::messages(&mut r)) {
-        decode_line(out, message, data_of(message).map_or(0, |d| d.len()));
+    for (k, message) in coded.iter().step_by(2).chain(&cases::messages(&mut r)).enumerate() {
+        for room in rooms(data_of(message)).into_iter().take(if k % 5 == 0 { 2 } else { 1 }) {
+            decode_line(out, message, room);
+        }
     }
     for (command, data) in cases::texts(&mut r).into_iter().chain(drawn_data(&mut r, 200)) {
         let mut message = message_of(command, &data).unwrap_or_default();
