@@ -20,7 +20,7 @@ use Rattle.ax25_token.specs.declared.encode.Put.{Put}
 use Rattle.ax25_token.specs.declared.encode.Put.the-variants.{Next, Bad}
 use Rattle.ax25_token.specs.Put.{casedOf, Puts}
 use Rattle.ax25_token.specs.Token.{baseOf, tokenBits}
-use Rattle.ax25_token.proofs.PutLaws.{map-plain, map-up}
+use Rattle.ax25_token.proofs.PutLaws.{gave, bad, puts, puts-none, map-plain, map-up}
 use Rattle.ax25_token.proofs.Sizes.{token-size}
 use Rattle.ax25_address.specs.Address.{addrCall, heardIn}
 use Rattle.ax25_address.specs.Parse.{Parsed, fieldsOf, isAp, aliasOf}
@@ -28,34 +28,7 @@ use Rattle.ax25_address.proofs.AliasLaws.{room-next}
 use Rattle.ax25_address.proofs.PlaceLaws.{addr-cut}
 use Rattle.ax25_address.proofs.SizeLaws.{addr-base, upper-base}
 use Rattle.ax25.specs.Encode.{typeWidth, tokensBits, digiBits, headBits}
-
--- ---- an answer that is a position, and one that is not
-
-pub record Gave (o : Option (List Bool)) (b : List Bool) (at : ℕ) (c : List Bool) (p : ℕ) : Type 0 where
-  pub bits : List Bool
-  pub is : o ≡ some bits
-  pub wrote : Wrote b at bits c p
-
-module _ (b : List Bool) (at : ℕ) (c : List Bool) where
-  pub gave : (o : Option (List Bool)) (t : Put) (p : ℕ) → t ≡ Next p → Puts b at o c t → Gave o b at c p
-  gave o t p e h = by o (subst (λ (u : Put). Puts b at o c u) e h)
-    where
-      by : (o : Option (List Bool)) → Puts b at o c (Next p) → Gave o b at c p
-      by none k = absurd k
-      by (some x) k = record { bits = x; is = refl; wrote = k }
-
-  pub bad : (o : Option (List Bool)) (t : Put) → t ≡ Bad → Puts b at o c t → o ≡ none
-  bad o t e h = by o (subst (λ (u : Put). Puts b at o c u) e h)
-    where
-      by : (o : Option (List Bool)) → Puts b at o c Bad → o ≡ none
-      by none k = refl
-      by (some x) k = absurd k
-
-  pub puts : {o : Option (List Bool)} (x : List Bool) (p : ℕ) → o ≡ some x → Wrote b at x c p → Puts b at o c (Next p)
-  puts x p e w = rw e w
-
-  pub puts-none : {o : Option (List Bool)} → o ≡ none → Puts b at o c Bad
-  puts-none e = rw e tt
+pub use Rattle.ax25_token.proofs.PutLaws.{Gave, gave, bad, puts, puts-none}
 
 -- ---- the definitions by case
 

@@ -1,7 +1,13 @@
+pub mod BodyLaws
 pub mod CoderLaws
 pub mod Examples
 pub mod FrameBack
 pub mod HeadBack
+pub mod HeadCode
+pub mod InfoLaws
+pub mod HeadLaws
+pub mod MessageCode
 pub mod PackLaws
 pub mod PlainLaws
+pub mod ReaderLaws
 pub mod SizeLaws

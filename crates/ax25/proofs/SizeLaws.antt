@@ -49,7 +49,7 @@ module _ (l : ℕ) (two : 2 ≤ l) (high : l ≤ 9) where
   marked-size true b x e = rw (← Option·some-injective (false ∷ x) b e) (omega arith)
   marked-size false b x e = rw (← Option·some-injective x b e) (omega arith)
 
-  digis-size : (ap : Bool) (cs : List (List ℕ)) → AllBase l cs → (b : List Bool) → digiBits l ap cs ≡ some b → length b ≤ length cs * each + 1
+  pub digis-size : (ap : Bool) (cs : List (List ℕ)) → AllBase l cs → (b : List Bool) → digiBits l ap cs ≡ some b → length b ≤ length cs * each + 1
   unfolding digiBits pick
   digis-size ap [] h b e = rw (← Option·some-injective [] b e) (omega arith)
   digis-size ap (c ∷ cs) h b e =
@@ -65,7 +65,7 @@ module _ (l : ℕ) (two : 2 ≤ l) (high : l ≤ 9) where
   width-le false = omega arith
 
   -- one H bit and one token for each digipeater, two more tokens, the alias bit and the type
-  head-size : (r : Parsed) (size : ℕ) → Sized l r size → (typ : ℕ) (b : List Bool) → headBits l r typ ≡ some b
+  pub head-size : (r : Parsed) (size : ℕ) → Sized l r size → (typ : ℕ) (b : List Bool) → headBits l r typ ≡ some b
       → length b ≤ length (r .digis) + length (r .digis) * each + 2 * each + 4
   unfolding headBits
   head-size r size s typ b e =
@@ -84,7 +84,7 @@ module _ (l : ℕ) (two : 2 ≤ l) (high : l ≤ 9) where
   body-bytes r = by-test (isUi r) (λ e. rw e (omega arith)) (λ e. rw e (omega arith))
 
   -- eight bits for each byte at most, or seven and the third party's calls
-  info-size : (r : Parsed) (typ : ℕ) (head : List Bool) (m : ℕ) → 8 * length (r .info) + 16 ≤ m → 7 * length (r .info) + 252 ≤ m → AtMost m (infoBits l r typ head)
+  pub info-size : (r : Parsed) (typ : ℕ) (head : List Bool) (m : ℕ) → 8 * length (r .info) + 16 ≤ m → 7 * length (r .info) + 252 ≤ m → AtMost m (infoBits l r typ head)
   unfolding infoBits
   info-size r typ head m h k =
       let i = drop 1 (r .info) in
@@ -133,14 +133,14 @@ packed-bounds header typ (answer b) c h m e =
     let q : header ∷ pack b ≡ c .bytes = cc in
     rw (← q) (record { fits = omega (arith, length-pack b, m b refl); first-low = h })
 
-four-from : {P : Type 0} (o : Option (List Bool)) (f : List Bool → Outcome Coded) (c : Coded) → orFour o f ≡ answer c → ((b : List Bool) → o ≡ some b → f b ≡ answer c → P) → P
+pub four-from : {P : Type 0} (o : Option (List Bool)) (f : List Bool → Outcome Coded) (c : Coded) → orFour o f ≡ answer c → ((b : List Bool) → o ≡ some b → f b ≡ answer c → P) → P
 four-from none f c e k = absurd (never e)
   where
     never : _≡_ {A = Outcome Coded} (refused 4) (answer c) → ⊥
     never q = let z : _≡_ {A = ℕ} 0 1 = cc in omega arith
 four-from (some b) f c e k = k b refl e
 
-three-from : {P : Type 0} (o : Option Parsed) (f : Parsed → Outcome Coded) (c : Coded) → orThree o f ≡ answer c → ((r : Parsed) → o ≡ some r → f r ≡ answer c → P) → P
+pub three-from : {P : Type 0} (o : Option Parsed) (f : Parsed → Outcome Coded) (c : Coded) → orThree o f ≡ answer c → ((r : Parsed) → o ≡ some r → f r ≡ answer c → P) → P
 three-from none f c e k = absurd (never e)
   where
     never : _≡_ {A = Outcome Coded} (refused 3) (answer c) → ⊥

@@ -1,3 +1,5 @@
+pub mod Codes
 pub mod Decode
 pub mod Encode
 pub mod Plain
+pub mod Put

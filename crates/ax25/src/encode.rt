@@ -1,7 +1,7 @@
 // A frame as a message: `encode` of the source.
 ghost use mathlib.Core.Path.{_≡_};
-ghost use mathlib.Core.Bool.{_&&_};
-ghost use mathlib.Core.List.{map};
+ghost use mathlib.Core.Bool.{Bool, false, _&&_};
+ghost use mathlib.Core.List.{List, map};
 ghost use mathlib.Core.Option.{some};
 ghost use Prim.Native.Nat.{_+_, _*_, _^_, _≤_, _<_};
 ghost use lib.ListN.{length};
@@ -9,20 +9,32 @@ ghost use lib.Dec.{eqb};
 ghost use Rattle.laws.specs.Bits.{bitsOf, unpack};
 ghost use Rattle.laws.specs.Pick.{pick};
 ghost use Rattle.laws.specs.Wrote.{Wrote};
+ghost use Rattle.bits.specs.Text7.{lastOr};
 ghost use Rattle.ax25_token.specs.Put.{casedOf, Puts};
 ghost use Rattle.ax25_token.specs.Token.{tokenBits};
 ghost use Rattle.ax25_address.specs.Address.{addrCall, heardIn};
 ghost use Rattle.ax25_address.specs.Kind.{typeNumber};
 ghost use Rattle.ax25_address.specs.Parse.{Parsed, fieldsOf, parseOf, typeOf, aliasOf};
 ghost use Rattle.ax25_address.specs.Record.{recordOf, seenOf};
-ghost use Rattle.ax25.specs.Encode.{digiCode, typeWidth, tokensBits, digiBits, headBits};
+ghost use Rattle.ax25_address.specs.Types.{Text, callLen};
+ghost use Rattle.ax25_aprs.specs.Put.{Does};
+ghost use Rattle.ax25.specs.Codes.{Codes};
+ghost use Rattle.ax25.specs.Encode.{digiCode, typeWidth, tokensBits, digiBits, headBits, infoBits, encodeOf};
 use ax25_address::address::addr_call;
 use ax25_address::classify::AprsType;
+use ax25_address::parse::addr_end;
 use ax25_address::record::Record;
+use ax25_address::record::call_len;
+use ax25_aprs::part::Part;
+use ax25_body::body::aprs_encode;
+use ax25_body::third::third_encode;
 use ax25_token::encode::Put;
 use ax25_token::encode::put_call;
 use bits::write::bit;
+use bits::write::byte;
 use bits::write::push;
+use bits::write::push_text7;
+use refusals::BAD_CALL;
 
 // The H bits of n digipeaters, of which f starts at the first. The next position.
 fn put_heard(f: &[u8], l: usize, n: usize, out: &mut [u8], at: usize) -> usize
@@ -181,4 +193,51 @@ fn wide(x: u8) -> u64
     ensures { λ r. ⌜ r ≡ x ⌝ }
 {
     x as u64
+}
+
+// Where the bytes of a text or binary body start: behind control 03 and PID F0, else at control.
+fn body_start(end: usize, ctrl: u8, pid: u8) -> usize
+    requires { ⌜ end < 2 ^ 60 ⌝ }
+    ensures { λ r. ⌜ r ≡ pick (eqb ctrl 0x03 && eqb pid 0xF0) (end + 2) end ⌝ }
+{
+    if is_ui(ctrl, pid) {
+        return end + 2;
+    }
+    end
+}
+
+// The body behind the bits of the head.
+fn put_body(frame: &[u8], command: u8, l: usize, r: Record, out: &mut [u8], at: usize) -> Part
+    requires { ⌜ (2 ≤ l) × (l ≤ 7) × (length (now frame) ≤ 4999) × (at < 2 ^ 54) × (some (recordOf r) ≡ seenOf command (parseOf l (now frame))) ⌝ }
+    ensures { λ t. ⌜ ((p : Parsed) (head : List Bool) → parseOf l (now (frame .entry)) ≡ some p → at ≡ 8 + length head
+        → (typeOf command p ≡ Text → lastOr false head ≡ false)
+        → Does (infoBits l p (typeOf command p) head) (unpack (now (out .entry))) at (unpack (now (out .exit))) t) ⌝ }
+{
+    let n = r.digis;
+    let typ = r.aprs_type;
+    let end = addr_end(n, l);
+    let start = body_start(end, r.ctrl, r.pid);
+    match typ {
+        AprsType::Text => Part::Next(push_text7(out, at, false, &frame[start..])),
+        AprsType::Binary => Part::Next(push_bytes(out, at, &frame[start..])),
+        AprsType::ThirdParty => third_encode(&frame[end + 3..], l, out, at),
+        _ => aprs_encode(typ, &frame[end + 3..], l, out, at),
+    }
+}
+
+// The message of a frame, whose record is r, as far as the output goes: its length, or the refusal's number.
+pub fn encode(frame: &[u8], command: u8, r: Record, out: &mut [u8]) -> Part
+    requires { ⌜ (length (now frame) ≤ 4999) × (some (recordOf r) ≡ seenOf command (parseOf (callLen command) (now frame))) ⌝ }
+    ensures { λ t. ⌜ Codes (encodeOf command (now (frame .entry))) (now (out .entry)) (now (out .exit)) t ⌝ }
+{
+    let l = call_len(command);
+    let n = r.digis;
+    byte(out, 0, header(command, is_ui(r.ctrl, r.pid), n));
+    let Put::Next(p) = put_head(frame, command, l, r, out) else {
+        return Part::Refused(BAD_CALL);
+    };
+    match put_body(frame, command, l, r, out, p) {
+        Part::Refused(k) => Part::Refused(k),
+        Part::Next(q) => Part::Next(push(out, q, 0, (8 - q % 8) % 8) / 8),
+    }
 }

@@ -1,2 +1,3 @@
 // A frame coded and decoded.
+pub mod decode;
 pub mod encode;

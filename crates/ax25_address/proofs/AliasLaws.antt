@@ -6,40 +6,16 @@ use mathlib.Core.List.{List, [], _∷_, _++_, map}
 use Prim.Native.Nat.{ℕ, zero, suc, _+_, _-_, _*_, _≤_, _<_}
 use native.Mathlib.Nat.{suc-mul}
 use native.Mathlib.Omega.{arith}
-use lib.ListN.{length, getD, take, drop, length-map}
+use lib.ListN.{length, getD, drop, length-map}
 use lib.Seq.{drop-cons}
-use lib.Dec.{eqb, leb}
-use borrow.Author.Tests.{eqb-true, leb-true}
 use Rattle.laws.specs.Pick.{pick}
 use Rattle.laws.specs.Text.{ascii, same}
-use Rattle.laws.proofs.Cases.{and-left, and-right}
-use Rattle.laws.proofs.TextLaws.{below, at-each, same-eq}
 use Rattle.ax25_token.specs.declared.Call.{Call}
 use Rattle.ax25_token.specs.Call.{textOf, empty, pushed, appended}
 use Rattle.ax25_token.proofs.CallLaws.{appended-append, len-appended, text-back}
 use Rattle.ax25_address.specs.Address.{addrCall}
 use Rattle.ax25_address.specs.Parse.{fieldsOf, aliases, aliasCalls, sameAll, aliasFrom, aliasOf}
 use Rattle.ax25_address.proofs.PlaceLaws.{addr-cut}
-
--- ---- a table of names and their lengths
-
--- the k-th row is the k-th call, of at most so many letters
-unfoldable pub isRow : (ℕ → Call) → ℕ → List (List ℕ) → List ℕ → ℕ → Bool
-isRow call most names lens k =
-    same (getD names k []) (call k .bytes) && (eqb (getD lens k 0) (call k .len) && leb (getD lens k 0) most)
-
-module _ (call : ℕ → Call) (most count : ℕ) (names : List (List ℕ)) (lens : List ℕ) (all : below (isRow call most names lens) count ≡ true) (k : ℕ) (h : k < count) where
-  pub row-is : (_≡_ {A = Call} (record { bytes = getD names k []; len = getD lens k 0 }) (call k)) × (getD lens k 0 ≤ most)
-  unfolding isRow
-  row-is =
-      let t : isRow call most names lens k ≡ true = at-each (isRow call most names lens) count all k h in
-      let s = and-left (same (getD names k []) (call k .bytes)) _ t in
-      let n = and-right (same (getD names k []) (call k .bytes)) _ t in
-      let bytes = same-eq (getD names k []) (call k .bytes) s in
-      let len = eqb-true (getD lens k 0) (call k .len) (and-left (eqb (getD lens k 0) (call k .len)) _ n) in (
-        ap₂ (λ (x : List ℕ) (m : ℕ). record { bytes = x; len = m }) bytes len,
-        leb-true (getD lens k 0) most (and-right (eqb (getD lens k 0) (call k .len)) _ n),
-      )
 
 -- the call of an alias's name
 unfoldable pub nameAt : ℕ → Call

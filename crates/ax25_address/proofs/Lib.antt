@@ -1,5 +1,6 @@
 pub mod AddressLaws
 pub mod AliasLaws
+pub mod CallField
 pub mod ClassifyLaws
 pub mod DigiLaws
 pub mod LetterLaws
@@ -7,3 +8,4 @@ pub mod ParseLaws
 pub mod PlaceLaws
 pub mod RecordLaws
 pub mod SizeLaws
+pub mod WhiteLaws

@@ -5,7 +5,7 @@ use mathlib.Core.List.{List, [], _∷_, _++_, map}
 use Prim.Native.Nat.{ℕ, _*_, _/_, _%_}
 use lib.Bits.{bitOr}
 use lib.ListN.{take, getD, replicate}
-use lib.Dec.{leb}
+use lib.Dec.{eqb, leb}
 use Rattle.laws.specs.Pick.{pick}
 use Rattle.laws.specs.Text.{ascii, between, upper, same, trim}
 use Rattle.bits.specs.Val.{valOf}
@@ -14,6 +14,14 @@ use Rattle.ax25_token.specs.Token.{baseOf, behind, suffix}
 -- white space around a call: 09 to 0D and 1C to 20
 unfoldable pub white : ℕ → Bool
 white c = between 9 13 c || between 28 32 c
+
+-- white space around an altitude: 09 to 0D and 20
+unfoldable pub blank : ℕ → Bool
+blank c = between 9 13 c || eqb c 32
+
+-- white space around a call, or around an altitude
+abbrev pub whiteIn : Bool → ℕ → Bool
+whiteIn call = pick call white blank
 
 unfoldable pub half : ℕ → ℕ
 half x = x / 2

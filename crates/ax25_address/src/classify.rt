@@ -53,8 +53,8 @@ pub fn any_high(d: &[u8]) -> bool
 }
 
 // One of two bytes, and a digit behind it.
-fn opens(d: &[u8], a: u8, b: u8) -> bool
-    requires { ⌜ 20 ≤ length (now d) ⌝ }
+pub fn opens(d: &[u8], a: u8, b: u8) -> bool
+    requires { ⌜ 2 ≤ length (now d) ⌝ }
     ensures { λ r. ⌜ r ≡ (oneOf (getD (now (d .entry)) 0 0) a b && isDigit (getD (now (d .entry)) 1 0)) ⌝ }
 {
     if !one_of(d[0], a, b) {

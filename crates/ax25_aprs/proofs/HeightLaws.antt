@@ -1,17 +1,17 @@
--- Trimming, digits and signs byte by byte, and the number of an altitude by cases.
+-- Digits and signs byte by byte, and the number of an altitude by cases.
 -- Assumes nothing.
 use mathlib.Core.Path.{_≡_, refl}
-use mathlib.Core.Bool.{Bool, true, false}
+use mathlib.Core.Bool.{true, false}
 use mathlib.Core.List.{List, [], _∷_}
 use mathlib.Core.Option.{none, some}
 use Prim.Native.Nat.{ℕ, suc, _≤_, _<_}
 use native.Mathlib.Omega.{arith}
-use lib.ListN.{length, getD, take, drop}
-use lib.Seq.{drop-cons, take-suc}
+use lib.ListN.{length, getD, drop}
+use lib.Seq.{drop-cons}
 use borrow.Author.Tests.{lt-leb, eq-eqb, ne-eqb}
 use Rattle.laws.specs.Pick.{pick}
-use Rattle.laws.specs.Text.{between, isDigit, trimEnd}
-use Rattle.laws.proofs.TrimLaws.{between-yes, between-above, end-on, end-here}
+use Rattle.laws.specs.Text.{between, isDigit}
+use Rattle.laws.proofs.TrimLaws.{between-yes, between-above}
 use Rattle.bits.specs.Val.{valOf}
 use Rattle.ax25_aprs.specs.Text.{allDigits, unsigned, noPlus}
 
@@ -20,13 +20,6 @@ unfolding between
 between-below a e c h = rw (lt-leb a c h)
 
 -- ---- byte by byte
-
-module _ (w : ℕ → Bool) (s : List ℕ) (i : ℕ) (h : i < length s) where
-  pub right-more : w (getD s i 0) ≡ true → trimEnd w (take (suc i) s) ≡ trimEnd w (take i s)
-  right-more e = rw (take-suc s i 0 h) (end-on w (take i s) (getD s i 0) e)
-
-  pub right-here : w (getD s i 0) ≡ false → trimEnd w (take (suc i) s) ≡ take (suc i) s
-  right-here e = rw (take-suc s i 0 h) (end-here w (take i s) (getD s i 0) e)
 
 module _ (s : List ℕ) (i : ℕ) (h : i < length s) where
   pub digits-more : 48 ≤ getD s i 0 → getD s i 0 ≤ 57 → allDigits (drop i s) ≡ allDigits (drop (suc i) s)

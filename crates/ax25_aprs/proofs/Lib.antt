@@ -11,5 +11,5 @@ pub mod Sizes
 mod Steps
 pub mod TextBack
 pub mod TextLaws
-mod ValueLaws
+pub mod ValueLaws
 pub mod WordLaws

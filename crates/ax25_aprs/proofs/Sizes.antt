@@ -231,7 +231,7 @@ module _ (l : ℕ) (low : 2 ≤ l) (high : l ≤ 9) where
 
   -- ---- third party: three calls of at most ten bytes, two bits and a body
 
-  part-most : (s : List ℕ) → length s ≤ 10 → AtMost 64 (callPart l s)
+  pub part-most : (s : List ℕ) → length s ≤ 10 → AtMost 64 (callPart l s)
   unfolding callPart
   part-most s h = call-most 10 (omega arith) s h
 

@@ -22,8 +22,9 @@ use Rattle.laws.proofs.TrimLaws.{between-yes, between-above, trim-solid}
 use Rattle.bits.specs.Val.{valOf}
 use Rattle.bits.specs.Write.{topBits}
 use Rattle.bits.proofs.ValLaws.{val-lt, digits-val}
+use Rattle.ax25_address.specs.Address.{blank}
 use Rattle.ax25_aprs.specs.Words.{word, wordAt}
-use Rattle.ax25_aprs.specs.Text.{joined, allDigits, unsigned, noPlus, blank, altitude, altitudeBits, altitudeAt, frontBits, frontSize, textFrom, textBits, padded, altitudeText, codeText, codeSpan, readFrom, readText}
+use Rattle.ax25_aprs.specs.Text.{joined, allDigits, unsigned, noPlus, altitude, altitudeBits, altitudeAt, frontBits, frontSize, textFrom, textBits, padded, altitudeText, codeText, codeSpan, readFrom, readText}
 use Rattle.ax25_aprs.proofs.WordLaws.{word-at, word-some, word-size}
 
 -- ---- digits

@@ -22,7 +22,7 @@ pub bits-left : (s : List ℕ) (at : ℕ) → length (drop at (unpack s)) ≡ le
 bits-left s at = omega (arith, length-drop at (unpack s), length-unpack s)
 
 -- as many as there are
-pub take-min : (k : ℕ) (l : List Bool) → take (min k (length l)) l ≡ take k l
+pub take-min : {A : Type 0} (k : ℕ) (l : List A) → take (min k (length l)) l ≡ take k l
 take-min k l =
     by-le k (length l)
     (λ h. let e : min k (length l) ≡ k = omega arith in rw e)

@@ -4,7 +4,7 @@ use mathlib.Core.Path.{_≡_}
 use mathlib.Core.Bool.{Bool}
 use mathlib.Core.List.{List}
 use mathlib.Core.Option.{Option, none, some}
-use Prim.Native.Nat.{ℕ, zero, suc, _+_}
+use Prim.Native.Nat.{ℕ, zero, suc, _+_, _≤_}
 use lib.ListN.{length, take, drop}
 use Rattle.laws.specs.Wrote.{Wrote}
 use Rattle.bits.specs.declared.read.Got.{Got}
@@ -48,3 +48,8 @@ spanIn d end (suc n) = ended (take end d) (drop (suc n) d)
 abbrev pub fieldIn : List ℕ → Collected → Field
 fieldIn d (Found s) = spanIn d (s .end) (s .next)
 fieldIn d Short = short
+
+-- the text ends within d and among its first k bytes, and what follows it starts within d
+abbrev pub Within : ℕ → List ℕ → Collected → Type 0
+Within k d (Found s) = (s .end ≤ k) × (s .end ≤ length d) × (s .next ≤ length d)
+Within k d Short = Unit {0}

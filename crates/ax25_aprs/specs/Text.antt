@@ -1,6 +1,6 @@
 -- `text_encode` and `text_decode`: position text and messages, seven bits a byte or a word, and in position types fourteen for an altitude.
 -- Assumes nothing.
-use mathlib.Core.Bool.{Bool, true, _&&_, _||_}
+use mathlib.Core.Bool.{Bool, true, _&&_}
 use mathlib.Core.List.{List, [], _∷_, _++_}
 use mathlib.Core.Option.{Option, none, some}
 use Prim.Native.Nat.{ℕ, zero, suc, _+_, _-_, _^_}
@@ -9,9 +9,10 @@ use lib.Dec.{eqb, ltb, leb}
 use Rattle.laws.specs.Bits.{bitsOf, valueOf}
 use Rattle.laws.specs.Digits.{digits}
 use Rattle.laws.specs.Pick.{pick}
-use Rattle.laws.specs.Text.{between, isDigit, trim}
+use Rattle.laws.specs.Text.{isDigit, trim}
 use Rattle.bits.specs.Val.{valOf}
 use Rattle.bits.specs.Write.{topBits}
+use Rattle.ax25_address.specs.Address.{blank}
 use Rattle.ax25_aprs.specs.Words.{word, wordAt}
 
 -- ---- coding
@@ -39,10 +40,6 @@ unsigned (c ∷ cs) = pick (allDigits (c ∷ cs)) (some (valOf (c ∷ cs))) none
 unfoldable pub noPlus : List ℕ → List ℕ
 noPlus [] = []
 noPlus (c ∷ cs) = pick (eqb c 43) cs (c ∷ cs)
-
--- white space around an altitude: 09 to 0D and 20
-unfoldable pub blank : ℕ → Bool
-blank c = between 9 13 c || eqb c 32
 
 -- the number that an altitude's four bytes are: "the source also takes white space around it and a leading plus sign"
 unfoldable pub altitude : List ℕ → Option ℕ

@@ -1,6 +1,6 @@
 // The bodies of APRS frames: text with the dictionary and altitudes, positions with and without a time, fields of third-party bodies.
 pub mod body;
-mod field;
+pub mod field;
 mod height;
 pub mod latlon;
 mod number;

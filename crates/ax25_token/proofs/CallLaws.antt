@@ -1,14 +1,19 @@
--- Laws of calls in 16 bytes, and of answers that put a reading behind what a call holds.
+-- Laws of calls in 16 bytes, of answers that put a reading behind what a call holds, and of tables of calls.
 -- Assumes nothing.
-use mathlib.Core.Path.{_≡_, refl, sym, ap, _∙_}
-use mathlib.Core.Bool.{Bool}
+use mathlib.Core.Path.{_≡_, refl, sym, ap, ap₂, _∙_}
+use mathlib.Core.Bool.{Bool, true, _&&_}
 use mathlib.Core.List.{List, [], _∷_, _++_, append-assoc, append-nil}
 use mathlib.Core.Option.{Option, none, some, Option·some-injective, Option·none-ne-some}
 use Prim.Native.Nat.{ℕ, _+_, _-_, _/_, _%_, _≤_, _<_}
 use native.Mathlib.Numerals.{add-one}
 use native.Mathlib.Omega.{arith}
-use lib.ListN.{length, take, drop, length-set}
+use lib.ListN.{length, take, drop, getD, length-set}
 use lib.Seq.{take-suc-set}
+use lib.Dec.{eqb, leb}
+use borrow.Author.Tests.{eqb-true, leb-true}
+use Rattle.laws.specs.Text.{same}
+use Rattle.laws.proofs.Cases.{and-left, and-right}
+use Rattle.laws.proofs.TextLaws.{below, at-each, same-eq}
 use Rattle.bits.specs.Read.{takeBits, taken}
 use Rattle.bits.specs.declared.read.Taken.{Taken}
 use Rattle.ax25_token.specs.declared.Call.{Call}
@@ -169,3 +174,23 @@ unfolding textOf
 text-front c =
     let e : c .len - 0 ≡ c .len = omega arith in
     ap (λ (n : ℕ). take n (c .bytes)) e
+
+-- ---- a table of names and their lengths
+
+-- the k-th row is the k-th call, of at most so many letters
+unfoldable pub isRow : (ℕ → Call) → ℕ → List (List ℕ) → List ℕ → ℕ → Bool
+isRow call most names lens k =
+    same (getD names k []) (call k .bytes) && (eqb (getD lens k 0) (call k .len) && leb (getD lens k 0) most)
+
+module _ (call : ℕ → Call) (most count : ℕ) (names : List (List ℕ)) (lens : List ℕ) (all : below (isRow call most names lens) count ≡ true) (k : ℕ) (h : k < count) where
+  pub row-is : (_≡_ {A = Call} (record { bytes = getD names k []; len = getD lens k 0 }) (call k)) × (getD lens k 0 ≤ most)
+  unfolding isRow
+  row-is =
+      let t : isRow call most names lens k ≡ true = at-each (isRow call most names lens) count all k h in
+      let s = and-left (same (getD names k []) (call k .bytes)) _ t in
+      let n = and-right (same (getD names k []) (call k .bytes)) _ t in
+      let bytes = same-eq (getD names k []) (call k .bytes) s in
+      let len = eqb-true (getD lens k 0) (call k .len) (and-left (eqb (getD lens k 0) (call k .len)) _ n) in (
+        ap₂ (λ (x : List ℕ) (m : ℕ). record { bytes = x; len = m }) bytes len,
+        leb-true (getD lens k 0) most (and-right (eqb (getD lens k 0) (call k .len)) _ n),
+      )

@@ -1,33 +1,23 @@
 -- The cases of the readings and of the codings, one law for each path.
 -- Assumes nothing.
 use mathlib.Core.Path.{_≡_, refl, sym, ap, _∙_}
-use mathlib.Core.Bool.{Bool, true, false, _&&_, _||_, not}
+use mathlib.Core.Bool.{Bool, true, false, _&&_, _||_}
 use mathlib.Core.List.{List, [], _∷_, _++_, map}
 use mathlib.Core.Option.{Option, none, some}
 use Prim.Native.Nat.{ℕ, suc, zero, _+_, _-_, _≤_, _<_}
 use native.Mathlib.Nat.{not-suc-le-zero, le-of-suc-le-suc}
 use native.Mathlib.Omega.{arith}
 use lib.ListN.{length, drop, getD, getElem?}
-use lib.Dec.{eqb, ltb, leb}
-use borrow.Author.Tests.{eqb-true, eq-eqb, ne-eqb, lt-ltb, le-ltb, le-leb, lt-leb}
+use lib.Dec.{eqb, ltb}
+use borrow.Author.Tests.{eqb-true, eq-eqb, ne-eqb, lt-ltb, le-ltb}
 use Rattle.laws.specs.Bits.{bitsOf}
 use Rattle.laws.specs.Pick.{pick}
 use Rattle.laws.specs.Text.{ascii, upper, same, isOneOf, starts, later, position}
-use Rattle.laws.proofs.TextLaws.{below, at-each, same-eq, eq-same, ne-same}
+use Rattle.laws.proofs.TextLaws.{below, at-each, same-eq}
 use Rattle.bits.specs.Read.{takeBits}
 use Rattle.bits.specs.Val.{valOf}
-use Rattle.ax25_token.specs.Tables.{callAlphabet, long, symOf, alphaOf, Pair, Fixed, Numbered, pairTexts, wideTokens, wideRow, pairRows, fixedRows, numberedRows}
-use Rattle.ax25_token.specs.Token.{hyphened, baseOf, behind, numberAt, twoDigits, decimal, suffix, pairBits, pairsBits, fixedBits, takes, numberedBits, spell, ending, plainAp, apBits, spelledBits, orElse, tokenBits, after, Form, spelled, paired, named, counted, begun, noToken, pairForm, fixedForm, numberedForm, symbolForm, formOf, wideNumber, readPair, readNumber, letterOf, goOn, readLetters, readSpelled, readForm, readToken}
-
--- ---- a name before what is read
-
-pub after-none : (n : List ℕ) → after n none ≡ none
-unfolding after
-after-none n = refl
-
-pub after-some : (n t : List ℕ) (r : List Bool) → after n (some (t, r)) ≡ some (n ++ t, r)
-unfolding after
-after-some n t r = refl
+use Rattle.ax25_token.specs.Tables.{callAlphabet, long, symOf, alphaOf, Numbered, wideTokens, wideRow, pairRows, fixedRows, numberedRows}
+use Rattle.ax25_token.specs.Token.{hyphened, baseOf, behind, numberAt, twoDigits, decimal, suffix, pairBits, takes, numberedBits, spell, ending, plainAp, apBits, spelledBits, tokenBits, after, Form, spelled, paired, named, counted, begun, noToken, pairForm, fixedForm, numberedForm, symbolForm, formOf, wideNumber, readPair, readNumber, letterOf, goOn, readLetters, readSpelled, readForm, readToken}
 
 -- ---- a number behind a name
 
@@ -271,23 +261,9 @@ and-false false = refl
 
 -- ---- coding: letters
 
-pub spell-none : spell [] ≡ some []
+pub spell-bad : (x : ℕ) (xs : List ℕ) → alphaOf x ≡ none → spell (x ∷ xs) ≡ none
 unfolding spell
-spell-none = refl
-
-module _ (x : ℕ) (xs : List ℕ) where
-  pub spell-bad : alphaOf x ≡ none → spell (x ∷ xs) ≡ none
-  unfolding spell
-  spell-bad e = rw e
-
-  module _ (v : ℕ) (e : alphaOf x ≡ some v) where
-    pub spell-stuck : spell xs ≡ none → spell (x ∷ xs) ≡ none
-    unfolding spell
-    spell-stuck f = rw (e, f)
-
-    pub spell-more : (b : List Bool) → spell xs ≡ some b → spell (x ∷ xs) ≡ some (bitsOf 6 v ++ b)
-    unfolding spell
-    spell-more b f = rw (e, f)
+spell-bad x xs e = rw e
 
 pub ending-all : (l n : ℕ) → l ≤ n → ending l n ≡ []
 unfolding ending pick
@@ -331,103 +307,28 @@ module _ (c : List ℕ) where
   plain-hyphened h = rw h (and-false (starts (ascii "AP") c))
 
 module _ (l : ℕ) (c : List ℕ) where
-  pub ap-bad : spell (drop 2 c) ≡ none → apBits l c ≡ none
-  unfolding apBits
-  ap-bad e = rw e
-
   pub ap-whole : (b : List Bool) → spell (drop 2 c) ≡ some b → apBits l c ≡ some (bitsOf 6 52 ++ (b ++ ending l (length c)))
   unfolding apBits
   ap-whole b e = rw (e, ap-symbol)
-
-  pub spelled-bad : spell (map upper (baseOf c)) ≡ none → spelledBits l c ≡ none
-  unfolding spelledBits
-  spelled-bad e = rw e
 
   pub spelled-bits : (b : List Bool) → spell (map upper (baseOf c)) ≡ some b
       → spelledBits l c ≡ some (b ++ (ending l (length (baseOf c)) ++ bitsOf 4 (valOf (behind c))))
   unfolding spelledBits
   spelled-bits b e = rw e
 
--- ---- coding: the rows of the tables
+-- ---- coding: the rows of NUMBERED
 
-module _ (c : List ℕ) where
-  module _ (p : Pair) (ps : List Pair) where
-    pub pairs-here : isOneOf c (pairTexts (p .name)) ≡ true → pairsBits (p ∷ ps) c ≡ some (pairBits p c)
-    unfolding pairsBits pick
-    pairs-here e = rw e
+module _ (c : List ℕ) (n : Numbered) (ns : List Numbered) where
+  pub numbered-here : takes n c ≡ true → numberedBits (n ∷ ns) c ≡ some (bitsOf 6 (symOf (n .sym)) ++ bitsOf (n .width) (numberAt c 4 2 - n .low))
+  unfolding numberedBits pick
+  numbered-here e = rw e
 
-    pub pairs-next : isOneOf c (pairTexts (p .name)) ≡ false → pairsBits (p ∷ ps) c ≡ pairsBits ps c
-    unfolding pairsBits pick
-    pairs-next e = rw e
+  pub numbered-next : takes n c ≡ false → numberedBits (n ∷ ns) c ≡ numberedBits ns c
+  unfolding numberedBits pick
+  numbered-next e = rw e
 
-  module _ (f : Fixed) (fs : List Fixed) where
-    pub fixed-here : c ≡ f .name → fixedBits (f ∷ fs) c ≡ some (bitsOf 6 (symOf (f .sym)))
-    unfolding fixedBits pick
-    fixed-here e = rw (eq-same c (f .name) e)
+-- ---- coding: WIDE
 
-    pub fixed-next : (c ≡ f .name → ⊥) → fixedBits (f ∷ fs) c ≡ fixedBits fs c
-    unfolding fixedBits pick
-    fixed-next e = rw (ne-same c (f .name) e)
-
-  module _ (n : Numbered) where
-    pub takes-yes : starts (n .name) c ≡ true → hyphened c ≡ false → n .low ≤ numberAt c 4 2 → numberAt c 4 2 < n .high → takes n c ≡ true
-    unfolding takes
-    takes-yes s h lo hi = rw (s, h, le-leb (n .low) (numberAt c 4 2) lo, lt-ltb (numberAt c 4 2) (n .high) hi)
-
-    pub takes-other : starts (n .name) c ≡ false → takes n c ≡ false
-    unfolding takes
-    takes-other s = rw s
-
-    pub takes-hyphened : hyphened c ≡ true → takes n c ≡ false
-    unfolding takes
-    takes-hyphened h = rw h (and-false (starts (n .name) c))
-
-    pub takes-low : numberAt c 4 2 < n .low → takes n c ≡ false
-    unfolding takes
-    takes-low h = rw (lt-leb (n .low) (numberAt c 4 2) h, and-false (not (hyphened c)), and-false (starts (n .name) c))
-
-    pub takes-high : n .high ≤ numberAt c 4 2 → takes n c ≡ false
-    unfolding takes
-    takes-high h =
-        rw (le-ltb (numberAt c 4 2) (n .high) h, and-false (leb (n .low) (numberAt c 4 2)), and-false (not (hyphened c)), and-false (starts (n .name) c))
-
-    module _ (ns : List Numbered) where
-      pub numbered-here : takes n c ≡ true
-          → numberedBits (n ∷ ns) c ≡ some (bitsOf 6 (symOf (n .sym)) ++ bitsOf (n .width) (numberAt c 4 2 - n .low))
-      unfolding numberedBits pick
-      numbered-here e = rw e
-
-      pub numbered-next : takes n c ≡ false → numberedBits (n ∷ ns) c ≡ numberedBits ns c
-      unfolding numberedBits pick
-      numbered-next e = rw e
-
--- ---- coding: in the source's order
-
-module _ (l : ℕ) (c : List ℕ) where
-  pub code-wide : isOneOf c wideTokens ≡ true → tokenBits l c ≡ some (pairBits wideRow c)
-  unfolding tokenBits pick
-  code-wide e = rw e
-
-  module _ (no-wide : isOneOf c wideTokens ≡ false) where
-    pub code-pair : (b : List Bool) → pairsBits pairRows c ≡ some b → tokenBits l c ≡ some b
-    unfolding tokenBits pick orElse
-    code-pair b e = rw (no-wide, e)
-
-    module _ (no-pair : pairsBits pairRows c ≡ none) where
-      pub code-fixed : (b : List Bool) → fixedBits fixedRows c ≡ some b → tokenBits l c ≡ some b
-      unfolding tokenBits pick orElse
-      code-fixed b e = rw (no-wide, no-pair, e)
-
-      module _ (no-fixed : fixedBits fixedRows c ≡ none) where
-        pub code-number : (b : List Bool) → numberedBits numberedRows c ≡ some b → tokenBits l c ≡ some b
-        unfolding tokenBits pick orElse
-        code-number b e = rw (no-wide, no-pair, no-fixed, e)
-
-        module _ (no-number : numberedBits numberedRows c ≡ none) where
-          pub code-ap : plainAp c ≡ true → tokenBits l c ≡ apBits l c
-          unfolding tokenBits pick orElse
-          code-ap e = rw (no-wide, no-pair, no-fixed, no-number, e)
-
-          pub code-spelled : plainAp c ≡ false → tokenBits l c ≡ spelledBits l c
-          unfolding tokenBits pick orElse
-          code-spelled e = rw (no-wide, no-pair, no-fixed, no-number, e)
+pub code-wide : (l : ℕ) (c : List ℕ) → isOneOf c wideTokens ≡ true → tokenBits l c ≡ some (pairBits wideRow c)
+unfolding tokenBits pick
+code-wide l c e = rw e

@@ -129,11 +129,6 @@ unfolding hyphened
 hyphen-clean [] t e = refl
 hyphen-clean (x ∷ c) t e = rw (clean-head x c e .no-hyphen, hyphen-clean c t (clean-rest x c e))
 
-pub clean-plain : (c : List ℕ) → cleanLetters c ≡ true → hyphened c ≡ false
-unfolding hyphened
-clean-plain [] e = refl
-clean-plain (x ∷ c) e = rw (clean-head x c e .no-hyphen, clean-plain c (clean-rest x c e))
-
 -- ---- the text of a call
 
 pub call-plain : (letters : List ℕ) → callText letters 0 ≡ letters
@@ -182,6 +177,3 @@ module _ (letters : List ℕ) (ssid : ℕ) (e : cleanLetters letters ≡ true) w
   pub call-unhyphened : hyphened (callText letters ssid) ≡ false → ssid ≡ 0
   unfolding callText
   call-unhyphened h = suffix-hyphened ssid (sym (hyphen-clean letters (suffix ssid) e) ∙ h)
-
-  pub call-hyphened : (ssid ≡ 0 → ⊥) → hyphened (callText letters ssid) ≡ true
-  call-hyphened n = by-test (hyphened (callText letters ssid)) (λ t. t) (λ f. absurd (n (call-unhyphened f)))

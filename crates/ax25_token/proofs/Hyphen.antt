@@ -1,17 +1,17 @@
 -- The first hyphen of a text: what stands before it and behind it.
 -- Assumes nothing.
 use mathlib.Core.Path.{_≡_, refl}
-use mathlib.Core.Bool.{true, false}
+use mathlib.Core.Bool.{false}
 use mathlib.Core.List.{List, [], _∷_, _++_}
 use Prim.Native.Nat.{ℕ, zero, suc, _≤_, _<_, suc-le-suc}
 use native.Mathlib.Nat.{not-suc-le-zero, le-of-suc-le-suc}
 use native.Mathlib.Omega.{arith}
-use lib.ListN.{length, take, drop, getD}
+use lib.ListN.{length, take, getD}
 use lib.Dec.{eqb}
 use borrow.Author.Tests.{eq-eqb, ne-eqb}
 use Rattle.laws.specs.Pick.{pick}
 use Rattle.laws.proofs.Cases.{by-test, or-left, or-right}
-use Rattle.ax25_token.specs.Token.{hyphened, baseOf, behind, suffix}
+use Rattle.ax25_token.specs.Token.{hyphened, baseOf, suffix}
 
 pub base-short : (c : List ℕ) → length (baseOf c) ≤ length c
 unfolding baseOf pick
@@ -40,18 +40,7 @@ unfolding baseOf hyphened pick
 base-plain [] e = refl
 base-plain (x ∷ c) e = rw (or-left (eqb x 45) (hyphened c) e, base-plain c (or-right (eqb x 45) (hyphened c) e))
 
-pub behind-plain : (c : List ℕ) → hyphened c ≡ false → behind c ≡ []
-unfolding behind hyphened pick
-behind-plain [] e = refl
-behind-plain (x ∷ c) e = rw (or-left (eqb x 45) (hyphened c) e, behind-plain c (or-right (eqb x 45) (hyphened c) e))
-
 -- ---- the first hyphen at k
-
-pub hyphened-yes : (c : List ℕ) (k : ℕ) → k < length c → getD c k 0 ≡ 45 → hyphened c ≡ true
-unfolding hyphened
-hyphened-yes [] k h e = absurd (not-suc-le-zero h)
-hyphened-yes (x ∷ c) zero h e = rw (eq-eqb x 45 e)
-hyphened-yes (x ∷ c) (suc k) h e = by-test (eqb x 45) (λ q. rw q) (λ q. rw q (hyphened-yes c k (le-of-suc-le-suc h) e))
 
 pub base-at : (c : List ℕ) (k : ℕ) → k < length c → getD c k 0 ≡ 45 → ((i : ℕ) → i < k → getD c i 0 ≡ 45 → ⊥) → baseOf c ≡ take k c
 unfolding baseOf pick
@@ -59,10 +48,3 @@ base-at [] k h e f = absurd (not-suc-le-zero h)
 base-at (x ∷ c) zero h e f = rw (eq-eqb x 45 e)
 base-at (x ∷ c) (suc k) h e f =
     rw (ne-eqb x 45 (f 0 (omega arith)), base-at c k (le-of-suc-le-suc h) e (λ i l. f (suc i) (suc-le-suc l)))
-
-pub behind-at : (c : List ℕ) (k : ℕ) → k < length c → getD c k 0 ≡ 45 → ((i : ℕ) → i < k → getD c i 0 ≡ 45 → ⊥) → behind c ≡ drop (suc k) c
-unfolding behind pick
-behind-at [] k h e f = absurd (not-suc-le-zero h)
-behind-at (x ∷ c) zero h e f = rw (eq-eqb x 45 e)
-behind-at (x ∷ c) (suc k) h e f =
-    rw (ne-eqb x 45 (f 0 (omega arith)), behind-at c k (le-of-suc-le-suc h) e (λ i l. f (suc i) (suc-le-suc l)))

@@ -4,10 +4,10 @@ use mathlib.Core.Path.{_≡_, refl, sym, ap, subst, _∙_}
 use mathlib.Core.Bool.{Bool, true, false}
 use mathlib.Core.List.{List, [], _∷_, _++_, map, append-nil}
 use mathlib.Core.Option.{Option, none, some}
-use Prim.Native.Nat.{ℕ, zero, suc, _+_, _*_, _≤_, _<_, suc-le-suc}
+use Prim.Native.Nat.{ℕ, suc, _+_, _*_, _≤_, _<_, suc-le-suc}
 use native.Mathlib.Numerals.{add-one}
 use native.Mathlib.Omega.{arith}
-use mathlib.Core.Bool.{_||_, not, false≢true}
+use mathlib.Core.Bool.{not, false≢true}
 use lib.ListN.{length, take, drop, getD, drop-of-length-le, length-map}
 use lib.Dec.{eqb}
 use lib.Seq.{drop-cons, length-take-le}
@@ -16,7 +16,7 @@ use Rattle.laws.specs.Pick.{pick, _>>=_}
 use Rattle.laws.specs.Text.{ascii, upper, same, isOneOf, starts}
 use Rattle.laws.specs.Wrote.{Wrote}
 use Rattle.laws.proofs.Cases.{by-test, by-le, and-left}
-use Rattle.laws.proofs.TextLaws.{same-eq, eq-same, ne-same, starts-eq, starts-append, starts-short}
+use Rattle.laws.proofs.TextLaws.{eq-same, ne-same, starts-eq, starts-append, starts-short}
 use Rattle.laws.proofs.WroteLaws.{wrote-none, wrote-then}
 use Rattle.ax25_token.specs.declared.encode.Put.{Put}
 use Rattle.ax25_token.specs.declared.encode.Put.the-variants.{Next, Bad}
@@ -25,8 +25,36 @@ use Rattle.ax25_token.specs.Tables.{symOf, alphaOf}
 use Rattle.bits.specs.Val.{valOf}
 use Rattle.ax25_token.specs.Token.{hyphened, baseOf, behind, spell, ending, plainAp, apBits, spelledBits}
 use Rattle.ax25_token.proofs.Cases.{spell-bad, ap-symbol}
-use Rattle.ax25_token.proofs.Hyphen.{base-short, hyphened-no, base-plain, base-at}
+use Rattle.ax25_token.proofs.Hyphen.{hyphened-no, base-plain, base-at}
 use Rattle.ax25_token.proofs.Sizes.{spell-size}
+
+-- ---- an answer that is a position, and one that is not
+
+pub record Gave (o : Option (List Bool)) (b : List Bool) (at : ℕ) (c : List Bool) (p : ℕ) : Type 0 where
+  pub bits : List Bool
+  pub is : o ≡ some bits
+  pub wrote : Wrote b at bits c p
+
+module _ (b : List Bool) (at : ℕ) (c : List Bool) where
+  pub gave : (o : Option (List Bool)) (t : Put) (p : ℕ) → t ≡ Next p → Puts b at o c t → Gave o b at c p
+  gave o t p e h = by o (subst (λ (u : Put). Puts b at o c u) e h)
+    where
+      by : (o : Option (List Bool)) → Puts b at o c (Next p) → Gave o b at c p
+      by none k = absurd k
+      by (some x) k = record { bits = x; is = refl; wrote = k }
+
+  pub bad : (o : Option (List Bool)) (t : Put) → t ≡ Bad → Puts b at o c t → o ≡ none
+  bad o t e h = by o (subst (λ (u : Put). Puts b at o c u) e h)
+    where
+      by : (o : Option (List Bool)) → Puts b at o c Bad → o ≡ none
+      by none k = refl
+      by (some x) k = absurd k
+
+  pub puts : {o : Option (List Bool)} (x : List Bool) (p : ℕ) → o ≡ some x → Wrote b at x c p → Puts b at o c (Next p)
+  puts x p e w = rw e w
+
+  pub puts-none : {o : Option (List Bool)} → o ≡ none → Puts b at o c Bad
+  puts-none e = rw e tt
 
 -- ---- an answer after bits
 

@@ -103,7 +103,7 @@ fn put_ap(c: &[u8], l: usize, out: &mut [u8], at: usize) -> Put
 }
 
 // The place of the first hyphen, or the length.
-fn hyphen(c: &[u8]) -> usize
+pub fn hyphen(c: &[u8]) -> usize
     ensures { λ r. ⌜ r ≡ length (baseOf (now (c .entry))) ⌝ }
 {
     let mut i = 0;

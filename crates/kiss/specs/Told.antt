@@ -9,8 +9,13 @@ use Rattle.laws.specs.Pick.{pick}
 use Rattle.refusals.specs.Outcome.{Outcome, refused, answer}
 use Rattle.ax25_address.specs.Kind.{typeNumber}
 use Rattle.ax25.specs.Encode.{Coded}
+use Rattle.kiss.specs.Codec.{Summary, Decoded}
 use Rattle.kiss.specs.declared.Encoded.{Encoded}
 use Rattle.kiss.specs.declared.Encoded.the-variants.{Refused, Bytes}
+use Rattle.kiss.specs.declared.Summarised.{Summarised}
+use Rattle.kiss.specs.declared.Summarised.the-variants as summarised
+use Rattle.kiss.specs.declared.Decoded as decoded
+use Rattle.kiss.specs.declared.Decoded.the-variants as variants
 
 -- the outcome of a call that writes bytes and answers their number with a value beside it, and the lent output afterwards.
 -- 6: "lent output shorter than the answer". A refusal leaves "all as before", and "past an answer's end the lent output is unchanged"
@@ -26,3 +31,16 @@ encodedOf (Bytes n typ) = answer (n, typeNumber typ)
 
 abbrev pub codeInto : Outcome Coded → List ℕ → Outcome (ℕ × ℕ) × List ℕ
 codeInto o out = intoWith (λ c. c .bytes) (λ c. c .typ) o out
+
+-- `summary`: the type, how many digipeaters, and whether control is 03
+abbrev pub summarisedOf : Summarised → Outcome Summary
+summarisedOf (summarised.Refused n) = refused n
+summarisedOf (summarised.Is s) = answer (record { typ = typeNumber (s .«aprs_type»); digis = s .digis; ui = s .ui })
+
+-- `decode`: the length and the command
+abbrev pub decodedOf : decoded.Decoded → Outcome (ℕ × ℕ)
+decodedOf (variants.Refused n) = refused n
+decodedOf (variants.Bytes command n) = answer (n, command)
+
+abbrev pub decodeInto : Outcome Decoded → List ℕ → Outcome (ℕ × ℕ) × List ℕ
+decodeInto o out = intoWith (λ d. d .bytes) (λ d. d .command) o out

@@ -34,7 +34,7 @@ fit-all zero (x ∷ b) h = absurd (not-suc-le-zero h)
 fit-all (suc n) [] h = rw (fit-all n [] zero-le, sub-zero, sub-zero)
 fit-all (suc n) (x ∷ b) h = rw (fit-all n b (le-of-suc-le-suc h), suc-sub-suc)
 
-fit-take : (n : ℕ) (b : List Bool) → n ≤ length b → fit n b ≡ take n b
+pub fit-take : (n : ℕ) (b : List Bool) → n ≤ length b → fit n b ≡ take n b
 unfolding fit
 fit-take zero b h = refl
 fit-take (suc n) [] h = absurd (not-suc-le-zero h)

@@ -1,144 +1,209 @@
+-- `ax25::encode::put_head` meets its contract.
+-- Assumes nothing.
 use borrow.Author.Needs.{needs}
+use native.Mathlib.Omega.{arith}
+use mathlib.Core.Path.{ap, _∙_}
+use mathlib.Core.Bool.{true}
+use Prim.Native.Nat.{_+_, _*_}
+use lib.ListN.{length, length-drop}
+use denote.Ref.{now}
+use Rattle.laws.proofs.ListLaws.{from-place}
+use Rattle.ax25_address.specs.Record.{recordOf}
+use Rattle.ax25_address.proofs.RecordLaws.{known}
+use Rattle.ax25.proofs.CoderLaws.{address-room}
+use Rattle.ax25.proofs.HeadCode.{from, parts-of, parts-are, heard-room, digis-room, bad-dest, bad-src, bad-digis, head-wrote}
 use Rattle.ax25.proofs.encode.put_head.Statement.{statement}
 use Rattle.ax25.proofs.encode.put_head.Tie as tie
-use Rattle.ax25.proofs.encode.put_head.Reads as reads
-use Rattle.ax25.proofs.encode.put_head.Lts as lts
-use Rattle.ax25.proofs.encode.put_address.Reads as put-address-reads
-use Rattle.ax25.proofs.encode.put_digis.Reads as put-digis-reads
-use Rattle.ax25.proofs.encode.put_heard.Reads as put-heard-reads
-use Rattle.ax25.proofs.encode.put_type.Reads as put-type-reads
 
--- src/encode.rt:114:36
 add-put-heard : tie.Need-add-put-heard
 add-put-heard c = search needs
 
--- src/encode.rt:114:31
 mul-put-heard : tie.Need-mul-put-heard
 mul-put-heard c = search needs
 
--- src/encode.rt:114:24
 sub-put-heard : tie.Need-sub-put-heard
-sub-put-heard c = ?
+sub-put-heard c =
+    let start = c .before .before in
+    let a = start .args in
+    let d = now (a .frame) in
+    let k = known (a .command) (a .l) d (recordOf (a .r)) (start .pre .3) in
+    k .front
 
--- src/encode.rt:114:24
 part-put-heard-start : tie.Need-part-put-heard-start
-part-put-heard-start c = ?
+part-put-heard-start c =
+    let start = c .before .before in
+    let a = start .args in
+    let d = now (a .frame) in
+    let k = known (a .command) (a .l) d (recordOf (a .r)) (start .pre .3) in
+    k .front
 
--- src/encode.rt:114:24
 part-put-heard-end : tie.Need-part-put-heard-end
 part-put-heard-end c = search needs
 
--- src/encode.rt:114:9
 put-heard-requires : tie.Need-put-heard-requires
-put-heard-requires c κs = ?
+put-heard-requires c κs =
+    let start = c .before .before .before .before in
+    let a = start .args in
+    let d = now (a .frame) in
+    let k = known (a .command) (a .l) d (recordOf (a .r)) (start .pre .3) in
+    let size = ap length (from-place d (2 * (a .l + 1))) ∙ length-drop (2 * (a .l + 1)) d in
+    (k .few, start .pre .1, omega (arith, k .behind, size), omega (arith, size, start .pre .2), omega (arith, k .few))
 
--- src/encode.rt:115:24
 put-address-requires : tie.Need-put-address-requires
-put-address-requires c κs = ?
+put-address-requires c κs =
+    let start = c .before .before .before .before .before .before .before .before in
+    let a = start .args in
+    let d = now (a .frame) in
+    let k = known (a .command) (a .l) d (recordOf (a .r)) (start .pre .3) in
+    let at = heard-room (a .l) (a .r .digis) (from (2 * (a .l + 1)) d) _ _ 8 _ (c .before .before .before .put-heard .ensures) in
+    (omega (arith, k .front), start .pre .1, omega (arith, at, k .few))
 
--- src/encode.rt:115:19
 enum-known-p : tie.Need-enum-known-p
 enum-known-p c = search needs
 
--- src/encode.rt:116:9
 enum-told : tie.Need-enum-told
 enum-told c = search needs
 
--- src/encode.rt:116:9
 same-length : tie.Need-same-length
 same-length c = search needs
 
--- src/encode.rt:116:9
 returns : tie.Need-returns
-returns c = ?
+returns c = λ p e.
+    let start = c .before .before .before .before .before .before .before .before .before .before .before .before .before in
+    let a = start .args in
+    let d = now (a .frame) in
+    let k = known (a .command) (a .l) d (recordOf (a .r)) (start .pre .3) in
+    bad-dest (a .command) (a .l) d (recordOf (a .r)) p (parts-are (a .command) (a .l) d (recordOf (a .r)) k p e) _ _ _ _ (c .enum-told .given .1) (c .before .before .before .before .put-address .ensures) _ 8 _
 
--- src/encode.rt:118:43
 add-put-address : tie.Need-add-put-address
 add-put-address c = search needs
 
--- src/encode.rt:118:36
 sub-put-address : tie.Need-sub-put-address
-sub-put-address c = ?
+sub-put-address c =
+    let start = c .before .before .before .before .before .before .before .before .before .before .before .before .before .before in
+    let a = start .args in
+    let d = now (a .frame) in
+    let k = known (a .command) (a .l) d (recordOf (a .r)) (start .pre .3) in
+    omega (arith, k .front)
 
--- src/encode.rt:118:36
 part-put-address-start : tie.Need-part-put-address-start
-part-put-address-start c = ?
+part-put-address-start c =
+    let start = c .before .before .before .before .before .before .before .before .before .before .before .before .before .before in
+    let a = start .args in
+    let d = now (a .frame) in
+    let k = known (a .command) (a .l) d (recordOf (a .r)) (start .pre .3) in
+    omega (arith, k .front)
 
--- src/encode.rt:118:36
 part-put-address-end : tie.Need-part-put-address-end
 part-put-address-end c = search needs
 
--- src/encode.rt:118:24
 put-address-requires-2 : tie.Need-put-address-requires-2
-put-address-requires-2 c κs = ?
+put-address-requires-2 c κs =
+    let start = c .before .before .before .before .before .before .before .before .before .before .before .before .before .before .before .before in
+    let a = start .args in
+    let d = now (a .frame) in
+    let k = known (a .command) (a .l) d (recordOf (a .r)) (start .pre .3) in
+    let at = heard-room (a .l) (a .r .digis) (from (2 * (a .l + 1)) d) _ _ 8 _ (c .before .before .before .before .before .before .before .before .before .before .before .put-heard .ensures) in
+    let first = address-room (a .l) (start .pre .0) (start .pre .1) _ _ _ _ _ (c .before .before .before .p .given .1) true d (c .before .before .before .before .before .before .before .put-address .ensures) in
+    let size = ap length (from-place d (a .l + 1)) ∙ length-drop (a .l + 1) d in
+    (omega (arith, k .front, size), start .pre .1, omega (arith, at, first, k .few))
 
--- src/encode.rt:118:19
 enum-known-q : tie.Need-enum-known-q
 enum-known-q c = search needs
 
--- src/encode.rt:119:9
 enum-told-2 : tie.Need-enum-told-2
 enum-told-2 c = search needs
 
--- src/encode.rt:119:9
 same-length-2 : tie.Need-same-length-2
 same-length-2 c = search needs
 
--- src/encode.rt:119:9
 returns-2 : tie.Need-returns-2
-returns-2 c = ?
+returns-2 c = λ p e.
+    let start = c .before .before .before .before .before .before .before .before .before .before .before .before .before .before .before .before .before .before .before .before .before in
+    let a = start .args in
+    let d = now (a .frame) in
+    let k = known (a .command) (a .l) d (recordOf (a .r)) (start .pre .3) in
+    bad-src (a .command) (a .l) d (recordOf (a .r)) p (parts-are (a .command) (a .l) d (recordOf (a .r)) k p e) _ _ _ _ _ (c .before .before .before .before .before .before .before .before .p .given .1) (c .before .before .before .before .before .before .before .before .before .before .before .before .put-address .ensures)
+    _ _ (c .before .before .before .before .put-address2 .ensures) (c .enum-told2 .given .1) _ 8 _
 
--- src/encode.rt:121:46
 add-put-digis : tie.Need-add-put-digis
 add-put-digis c = search needs
 
--- src/encode.rt:121:41
 mul-put-digis : tie.Need-mul-put-digis
 mul-put-digis c = search needs
 
--- src/encode.rt:121:34
 sub-put-digis : tie.Need-sub-put-digis
-sub-put-digis c = ?
+sub-put-digis c =
+    let start = c .before .before .before .before .before .before .before .before .before .before .before .before .before .before .before .before .before .before .before .before .before .before in
+    let a = start .args in
+    let d = now (a .frame) in
+    let k = known (a .command) (a .l) d (recordOf (a .r)) (start .pre .3) in
+    k .front
 
--- src/encode.rt:121:34
 part-put-digis-start : tie.Need-part-put-digis-start
-part-put-digis-start c = ?
+part-put-digis-start c =
+    let start = c .before .before .before .before .before .before .before .before .before .before .before .before .before .before .before .before .before .before .before .before .before .before in
+    let a = start .args in
+    let d = now (a .frame) in
+    let k = known (a .command) (a .l) d (recordOf (a .r)) (start .pre .3) in
+    k .front
 
--- src/encode.rt:121:34
 part-put-digis-end : tie.Need-part-put-digis-end
 part-put-digis-end c = search needs
 
--- src/encode.rt:121:24
 put-digis-requires : tie.Need-put-digis-requires
-put-digis-requires c κs = ?
+put-digis-requires c κs =
+    let start = c .before .before .before .before .before .before .before .before .before .before .before .before .before .before .before .before .before .before .before .before .before .before .before .before in
+    let a = start .args in
+    let d = now (a .frame) in
+    let k = known (a .command) (a .l) d (recordOf (a .r)) (start .pre .3) in
+    let at = heard-room (a .l) (a .r .digis) (from (2 * (a .l + 1)) d) _ _ 8 _ (c .before .before .before .before .before .before .before .before .before .before .before .before .before .before .before .before .before .before .before .put-heard .ensures) in
+    let first = address-room (a .l) (start .pre .0) (start .pre .1) _ _ _ _ _ (c .before .before .before .before .before .before .before .before .before .before .before .p .given .1) true d (c .before .before .before .before .before .before .before .before .before .before .before .before .before .before .before .put-address .ensures) in
+    let second = address-room (a .l) (start .pre .0) (start .pre .1) _ _ _ _ _ (c .before .before .before .q .given .1) true (from (a .l + 1) d) (c .before .before .before .before .before .before .before .put-address2 .ensures) in
+    let size = ap length (from-place d (2 * (a .l + 1))) ∙ length-drop (2 * (a .l + 1)) d in
+    (k .few, start .pre .0, start .pre .1, omega (arith, k .behind, size), omega (arith, size, start .pre .2), omega (arith, at, first, second, k .few), parts-of (a .command) (a .l) d (recordOf (a .r)) k .alias-is)
 
--- src/encode.rt:121:19
 enum-known-e : tie.Need-enum-known-e
 enum-known-e c = search needs
 
--- src/encode.rt:122:9
 enum-told-3 : tie.Need-enum-told-3
 enum-told-3 c = search needs
 
--- src/encode.rt:122:9
 same-length-3 : tie.Need-same-length-3
 same-length-3 c = search needs
 
--- src/encode.rt:122:9
 returns-3 : tie.Need-returns-3
-returns-3 c = ?
+returns-3 c = λ p e.
+    let start = c .before .before .before .before .before .before .before .before .before .before .before .before .before .before .before .before .before .before .before .before .before .before .before .before .before .before .before .before .before in
+    let a = start .args in
+    let d = now (a .frame) in
+    let k = known (a .command) (a .l) d (recordOf (a .r)) (start .pre .3) in
+    bad-digis (a .command) (a .l) d (recordOf (a .r)) p (parts-are (a .command) (a .l) d (recordOf (a .r)) k p e) _ _ _ _ _ (c .before .before .before .before .before .before .before .before .before .before .before .before .before .before .before .before .p .given .1) (c .before .before .before .before .before .before .before .before .before .before .before .before .before .before .before .before .before .before .before .before .put-address .ensures)
+    _ _ (c .before .before .before .before .before .before .before .before .before .before .before .before .put-address2 .ensures) _ (c .before .before .before .before .before .before .before .before .q .given .1) _ _ (c .before .before .before .before .put-digis .ensures) (c .enum-told3 .given .1) _ 8 _
 
--- src/encode.rt:124:15
 put-type-requires : tie.Need-put-type-requires
-put-type-requires c κs = ?
+put-type-requires c κs =
+    let start = c .before .before .before .before .before .before .before .before .before .before .before .before .before .before .before .before .before .before .before .before .before .before .before .before .before .before .before .before .before .before .before in
+    let a = start .args in
+    let d = now (a .frame) in
+    let k = known (a .command) (a .l) d (recordOf (a .r)) (start .pre .3) in
+    let at = heard-room (a .l) (a .r .digis) (from (2 * (a .l + 1)) d) _ _ 8 _ (c .before .before .before .before .before .before .before .before .before .before .before .before .before .before .before .before .before .before .before .before .before .before .before .before .before .before .put-heard .ensures) in
+    let first = address-room (a .l) (start .pre .0) (start .pre .1) _ _ _ _ _ (c .before .before .before .before .before .before .before .before .before .before .before .before .before .before .before .before .before .before .p .given .1) true d (c .before .before .before .before .before .before .before .before .before .before .before .before .before .before .before .before .before .before .before .before .before .before .put-address .ensures) in
+    let second = address-room (a .l) (start .pre .0) (start .pre .1) _ _ _ _ _ (c .before .before .before .before .before .before .before .before .before .before .q .given .1) true (from (a .l + 1) d) (c .before .before .before .before .before .before .before .before .before .before .before .before .before .before .put-address2 .ensures) in
+    let third = digis-room (a .command) (a .l) (start .pre .0) (start .pre .1) d (recordOf (a .r)) k _ _ _ _ _ (c .before .before .e .given .1) (c .before .before .before .before .before .before .put-digis .ensures) in
+    omega (arith, at, first, second, third, k .few)
 
--- src/encode.rt:106:1
 same-length-4 : tie.Need-same-length-4
 same-length-4 c = search needs
 
--- src/encode.rt:106:1
 returns-4 : tie.Need-returns-4
-returns-4 c = ?
+returns-4 c = λ p e.
+    let start = c .before .before .before .before .before .before .before .before .before .before .before .before .before .before .before .before .before .before .before .before .before .before .before .before .before .before .before .before .before .before .before .before .before .before in
+    let a = start .args in
+    let d = now (a .frame) in
+    let k = known (a .command) (a .l) d (recordOf (a .r)) (start .pre .3) in
+    head-wrote (a .command) (a .l) d (recordOf (a .r)) p (parts-are (a .command) (a .l) d (recordOf (a .r)) k p e) _ _ _ _ _ (c .before .before .before .before .before .before .before .before .before .before .before .before .before .before .before .before .before .before .before .before .before .p .given .1) (c .before .before .before .before .before .before .before .before .before .before .before .before .before .before .before .before .before .before .before .before .before .before .before .before .before .put-address .ensures)
+    _ _ (c .before .before .before .before .before .before .before .before .before .before .before .before .before .before .before .before .before .put-address2 .ensures) _ (c .before .before .before .before .before .before .before .before .before .before .before .before .before .q .given .1) _ _ (c .before .before .before .before .before .before .before .before .before .put-digis .ensures) _ (c .before .before .before .before .before .e .given .1) _ 8 (c .before .before .before .before .before .before .before .before .before .before .before .before .before .before .before .before .before .before .before .before .before .before .before .before .before .before .before .before .before .put-heard .ensures) _ _ (c .before .before .put-type .ensures)
 
 pub put-head-spec : {M : Type 1} → statement M
 put-head-spec =

@@ -33,7 +33,7 @@ same-length c = search needs
 returns : tie.Need-returns
 returns c =
     let code = c .before .before .before .code in
-    three (c .before .before .before .before .before .before .args .ap) (c .before .before .before .before .if1 .taken) (code .ensures) (c .before .before .push .ensures .0)
+    three (c .before .before .before .before .before .before .before .args .ap) (c .before .before .before .before .before .if1 .taken) (code .ensures) (c .before .before .push .ensures .0)
 
 code-requires-2 : tie.Need-code-requires-2
 code-requires-2 c κs = search needs
@@ -47,7 +47,7 @@ same-length-2 c = search needs
 returns-2 : tie.Need-returns-2
 returns-2 c =
     let code = c .before .before .before .code2 in
-    one (c .before .before .before .before .before .before .args .ap) (c .before .before .before .before .if1 .left) (code .ensures) (c .before .before .push2 .ensures .0)
+    one (c .before .before .before .before .before .before .before .args .ap) (c .before .before .before .before .before .if1 .left) (code .ensures) (c .before .before .push2 .ensures .0)
 
 pub put-type-spec : {M : Type 1} → statement M
 put-type-spec =

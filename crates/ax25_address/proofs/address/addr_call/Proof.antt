@@ -2,23 +2,33 @@
 -- Assumes nothing.
 use borrow.Author.Needs.{needs}
 use native.Mathlib.Omega.{arith}
-use mathlib.Core.Path.{refl, ap, _∙_}
+use mathlib.Core.Path.{_≡_, refl, _∙_}
 use Prim.Native.Nat.{_≤_}
+use lib.ListN.{length}
 use denote.Ref.{now}
-use Rattle.laws.specs.Text.{trimEnd}
-use Rattle.ax25_address.specs.Address.{white}
+use Rattle.ax25_token.proofs.CallLaws.{text-front}
 use Rattle.ax25_address.proofs.LetterLaws.{field-text}
 use Rattle.ax25_address.proofs.address.addr_call.Statement.{statement}
 use Rattle.ax25_address.proofs.address.addr_call.Tie as tie
 
-front-requires : tie.Need-front-requires
-front-requires c κs = search needs
+halved-requires : tie.Need-halved-requires
+halved-requires c κs = search needs
 
-end-requires : tie.Need-end-requires
-end-requires c κs = search needs
+sub-trimmed-as : tie.Need-sub-trimmed-as
+sub-trimmed-as c = search needs
 
-copied-requires : tie.Need-copied-requires
-copied-requires c κs = search needs
+part-trimmed-as-start : tie.Need-part-trimmed-as-start
+part-trimmed-as-start c = search needs
+
+part-trimmed-as-end : tie.Need-part-trimmed-as-end
+part-trimmed-as-end c =
+    let h = c .before .before .halved .result in
+    let n : length (h .bytes) ≡ 16 = search needs in
+    let k : h .len ≤ length (h .bytes) = omega (arith, n, c .before .before .halved .ensures .1) in
+    k
+
+trimmed-as-requires : tie.Need-trimmed-as-requires
+trimmed-as-requires c κs = search needs
 
 shared-slice-read-suffixed : tie.Need-shared-slice-read-suffixed
 shared-slice-read-suffixed c = search needs
@@ -31,22 +41,22 @@ suffixed-requires c κs = search needs
 
 returns : tie.Need-returns
 returns c =
-    let letters = c .before .before .copied in
-    let end = c .before .before .before .end in
-    let front = c .before .before .before .before .front in
-    let a = c .before .before .before .before .before .before .args in
-    let few : c .suffixed .result .len ≤ 10 = omega (arith, c .suffixed .ensures .1, letters .ensures .1) in (
-      field-text (a .up) (a .l) (now (a .f)) _ _ _ _ (end .ensures .2 ∙ ap (trimEnd white) (front .ensures .1)) refl (letters .ensures .0) (c .suffixed .ensures .0) (omega arith),
-      few,
+    let h = c .before .before .before .before .before .before .halved in
+    let t = c .before .before .trimmed-as in
+    let a = c .before .before .before .before .before .before .before .before .args in (
+      field-text (a .up) (a .l) (now (a .f)) _ _ _ _ (text-front (h .result) ∙ h .ensures .0) refl (t .ensures .2) (c .suffixed .ensures .0) (omega arith),
+      omega (arith, c .suffixed .ensures .1, t .ensures .1),
     )
 
 pub addr-call-spec : {M : Type 1} → statement M
 addr-call-spec =
     tie.close
     (tie.spec
-    front-requires
-    end-requires
-    copied-requires
+    halved-requires
+    sub-trimmed-as
+    part-trimmed-as-start
+    part-trimmed-as-end
+    trimmed-as-requires
     shared-slice-read-suffixed
     cast-suffixed
     suffixed-requires

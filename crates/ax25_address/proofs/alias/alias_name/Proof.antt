@@ -8,8 +8,9 @@ use lib.ListN.{length}
 use Rattle.laws.specs.Text.{same, filled}
 use Rattle.laws.proofs.TextLaws.{below}
 use Rattle.ax25_token.specs.Call.{appended}
+use Rattle.ax25_token.proofs.CallLaws.{isRow, row-is}
 use Rattle.ax25_address.specs.Parse.{aliases}
-use Rattle.ax25_address.proofs.AliasLaws.{isRow, row-is, nameAt}
+use Rattle.ax25_address.proofs.AliasLaws.{nameAt}
 use Rattle.ax25_address.proofs.alias.alias_name.Statement.{statement}
 use Rattle.ax25_address.proofs.alias.alias_name.Tie as tie
 

@@ -1,17 +1,13 @@
 -- `ax25_aprs::height::read` meets its contract.
 -- Assumes nothing.
-use native.Mathlib.Omega.{arith}
 use borrow.Author.Needs.{needs}
-use mathlib.Core.Path.{_≡_, sym, ap, _∙_}
+use mathlib.Core.Path.{ap, _∙_}
 use mathlib.Core.List.{List}
-use Prim.Native.Nat.{ℕ, _+_, _-_}
-use lib.ListN.{take, drop}
+use Prim.Native.Nat.{ℕ}
 use denote.Ref.{now}
-use Rattle.laws.specs.Text.{trimFront, trimEnd, trim}
-use Rattle.ax25_aprs.specs.Text.{blank}
 use Rattle.ax25_aprs.specs.Text.{altitude, unsigned, noPlus}
 use Rattle.ax25_aprs.specs.Put.{numberOf}
-use Rattle.laws.proofs.ListLaws.{from-place}
+use Rattle.ax25_address.proofs.WhiteLaws.{height-trimmed}
 use Rattle.ax25_aprs.proofs.height.read.Statement.{statement}
 use Rattle.ax25_aprs.proofs.height.read.Tie as tie
 
@@ -46,16 +42,12 @@ signed-requires : tie.Need-signed-requires
 signed-requires c κs = search needs
 
 returns : tie.Need-returns
-unfolding altitude trim
+unfolding altitude
 returns c =
     let s = now (c .before .before .before .before .before .before .args .s) in
     let f = c .before .before .before .before .front in
     let e = c .before .before .end in
-    let a = f .result in
-    let k : a + e .result - a ≡ e .result = omega arith in
-    let part : take (a + e .result - a) (drop a s) ≡ trimEnd blank (trimFront blank s) =
-    rw k (ap (take (e .result)) (sym (from-place s a)) ∙ e .ensures .1 ∙ ap (trimEnd blank) (from-place s a ∙ f .ensures .1)) in
-    c .signed .ensures ∙ ap (λ (l : List ℕ). numberOf (unsigned (noPlus l))) part
+    c .signed .ensures ∙ ap (λ (l : List ℕ). numberOf (unsigned (noPlus l))) (height-trimmed s (f .result) (e .result) (f .ensures .1) (e .ensures .1))
 
 pub read-spec : {M : Type 1} → statement M
 read-spec =

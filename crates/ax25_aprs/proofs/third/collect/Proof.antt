@@ -22,7 +22,7 @@ returns : tie.Need-returns Inv-loop μ-loop
 returns c =
     let at-loop = c .before .before in
     let a = at-loop .before .args in
-    sym (collect-short (a .stop) (a .k) (now (a .d)) (omega arith) (λ i h. at-loop .loop .inv .2 i (omega arith)))
+    (sym (collect-short (a .stop) (a .k) (now (a .d)) (omega arith) (λ i h. at-loop .loop .inv .2 i (omega arith))), tt)
 
 shared-slice-read-if3 : tie.Need-shared-slice-read-if3 Inv-loop μ-loop
 shared-slice-read-if3 c = omega arith
@@ -46,13 +46,13 @@ returns-2 : tie.Need-returns-2 Inv-loop μ-loop
 returns-2 c =
     let at-loop = c .before in
     let a = at-loop .before .args in
-    span-full (a .stop) (a .k) (now (a .d)) (at-loop .loop .j) (omega arith) (omega arith) (at-loop .loop .inv .2)
+    (span-full (a .stop) (a .k) (now (a .d)) (at-loop .loop .j) (omega arith) (omega arith) (at-loop .loop .inv .2), (omega arith, omega arith, omega arith))
 
 returns-3 : tie.Need-returns-3 Inv-loop μ-loop
 returns-3 c =
     let at-loop = c .before .before .before .before in
     let a = at-loop .before .args in
-    span-ended (a .stop) (a .k) (now (a .d)) (at-loop .loop .j) (omega arith) (omega arith) (at-loop .loop .inv .2) (c .if3 .taken)
+    (span-ended (a .stop) (a .k) (now (a .d)) (at-loop .loop .j) (omega arith) (omega arith) (at-loop .loop .inv .2) (c .if3 .taken), (omega arith, omega arith, omega arith))
 
 pub collect-spec : {M : Type 1} → statement M
 collect-spec =

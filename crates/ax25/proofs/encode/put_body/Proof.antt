@@ -1,0 +1,262 @@
+-- `ax25::encode::put_body` meets its contract.
+-- Assumes nothing.
+use native.Mathlib.Omega.{arith}
+use mathlib.Core.Path.{_≡_, ap, _∙_}
+use Prim.Native.Nat.{ℕ, _+_, _*_, _≤_}
+use lib.ListN.{length, drop}
+use lib.Dec.{eqb}
+use mathlib.Core.Bool.{_&&_}
+use denote.Ref.{now}
+use Rattle.ax25_address.specs.declared.record.Record.{Record}
+use Rattle.ax25_address.specs.declared.classify.AprsType.{AprsType}
+use Rattle.ax25_address.specs.declared.classify.AprsType.the-variants.{ThirdParty}
+use Rattle.laws.specs.Pick.{pick}
+use Rattle.laws.specs.Wrote.{Wrote}
+use Rattle.ax25_address.specs.Kind.{typeNumber}
+use Rattle.ax25_address.specs.Record.{recordOf}
+use Rattle.ax25_address.proofs.DigiLaws.{end-size}
+use Rattle.ax25_address.proofs.RecordLaws.{known}
+use Rattle.ax25.proofs.HeadCode.{from}
+use Rattle.ax25.proofs.InfoLaws.{own-type, typed-room, start-room, text-does, binary-does, third-does, own-does}
+use borrow.Author.Needs.{needs}
+use Rattle.ax25.proofs.encode.put_body.Statement.{statement}
+use Rattle.ax25.proofs.encode.put_body.Tie as tie
+
+-- where the body starts, by where the address fields end
+at-end : (r : Record) (end start : ℕ) {e : ℕ} → end ≡ e → start ≡ pick (eqb (r .ctrl) 0x03 && eqb (r .pid) 0xF0) (end + 2) end
+    → start ≡ pick (eqb (r .ctrl) 0x03 && eqb (r .pid) 0xF0) (e + 2) e
+at-end r end start e f = rw (← e) f
+
+third-more : (t : AprsType) → t ≡ ThirdParty → 2 ≤ typeNumber t
+third-more t e = rw e (omega arith)
+
+addr-end-requires : tie.Need-addr-end-requires
+addr-end-requires c κs =
+    let start = c .before .before in
+    let a = start .args in
+    let d = now (a .frame) in
+    let k = known (a .command) (a .l) d (recordOf (a .r)) (start .pre .4) in
+    (k .few, start .pre .1)
+
+body-start-requires : tie.Need-body-start-requires
+body-start-requires c κs =
+    let start = c .before .before .before in
+    let a = start .args in
+    let d = now (a .frame) in
+    let k = known (a .command) (a .l) d (recordOf (a .r)) (start .pre .4) in
+    omega (arith, c .addr-end .ensures, end-size (a .r .digis) (a .l) (k .few) (start .pre .1))
+
+enum-told : tie.Need-enum-told
+enum-told c = search needs
+
+sub-push-text7 : tie.Need-sub-push-text7
+sub-push-text7 c =
+    let start = c .before .before .before .before .before .before .before in
+    let a = start .args in
+    let d = now (a .frame) in
+    let k = known (a .command) (a .l) d (recordOf (a .r)) (start .pre .4) in
+    let e = c .before .before .before .before .addr-end in
+    let s = c .before .before .before .body-start in
+    start-room (a .command) (a .l) d (recordOf (a .r)) k (s .result) (at-end (a .r) _ _ (e .ensures) (s .ensures))
+
+part-push-text7-start : tie.Need-part-push-text7-start
+part-push-text7-start c =
+    let start = c .before .before .before .before .before .before .before in
+    let a = start .args in
+    let d = now (a .frame) in
+    let k = known (a .command) (a .l) d (recordOf (a .r)) (start .pre .4) in
+    let e = c .before .before .before .before .addr-end in
+    let s = c .before .before .before .body-start in
+    start-room (a .command) (a .l) d (recordOf (a .r)) k (s .result) (at-end (a .r) _ _ (e .ensures) (s .ensures))
+
+part-push-text7-end : tie.Need-part-push-text7-end
+part-push-text7-end c = search needs
+
+push-text7-requires : tie.Need-push-text7-requires
+push-text7-requires c κs = search needs
+
+enum-told-2 : tie.Need-enum-told-2
+enum-told-2 c = search needs
+
+sub-push-bytes : tie.Need-sub-push-bytes
+sub-push-bytes c =
+    let start = c .before .before .before .before .before .before .before in
+    let a = start .args in
+    let d = now (a .frame) in
+    let k = known (a .command) (a .l) d (recordOf (a .r)) (start .pre .4) in
+    let e = c .before .before .before .before .addr-end in
+    let s = c .before .before .before .body-start in
+    start-room (a .command) (a .l) d (recordOf (a .r)) k (s .result) (at-end (a .r) _ _ (e .ensures) (s .ensures))
+
+part-push-bytes-start : tie.Need-part-push-bytes-start
+part-push-bytes-start c =
+    let start = c .before .before .before .before .before .before .before in
+    let a = start .args in
+    let d = now (a .frame) in
+    let k = known (a .command) (a .l) d (recordOf (a .r)) (start .pre .4) in
+    let e = c .before .before .before .before .addr-end in
+    let s = c .before .before .before .body-start in
+    start-room (a .command) (a .l) d (recordOf (a .r)) k (s .result) (at-end (a .r) _ _ (e .ensures) (s .ensures))
+
+part-push-bytes-end : tie.Need-part-push-bytes-end
+part-push-bytes-end c = search needs
+
+push-bytes-requires : tie.Need-push-bytes-requires
+push-bytes-requires c κs = search needs
+
+enum-told-3 : tie.Need-enum-told-3
+enum-told-3 c = search needs
+
+add-third-encode : tie.Need-add-third-encode
+add-third-encode c =
+    let start = c .before .before .before .before .before .before in
+    let a = start .args in
+    let d = now (a .frame) in
+    let k = known (a .command) (a .l) d (recordOf (a .r)) (start .pre .4) in
+    let e = c .before .before .before .addr-end .ensures in
+    let room = typed-room (a .command) (a .l) d (recordOf (a .r)) k (third-more _ (c .enum-told3 .given .1)) in
+    omega (arith, e, end-size (a .r .digis) (a .l) (k .few) (start .pre .1))
+
+sub-third-encode : tie.Need-sub-third-encode
+sub-third-encode c =
+    let start = c .before .before .before .before .before .before in
+    let a = start .args in
+    let d = now (a .frame) in
+    let k = known (a .command) (a .l) d (recordOf (a .r)) (start .pre .4) in
+    let e = c .before .before .before .addr-end .ensures in
+    let room = typed-room (a .command) (a .l) d (recordOf (a .r)) k (third-more _ (c .enum-told3 .given .1)) in
+    omega (arith, e, room)
+
+part-third-encode-start : tie.Need-part-third-encode-start
+part-third-encode-start c =
+    let start = c .before .before .before .before .before .before in
+    let a = start .args in
+    let d = now (a .frame) in
+    let k = known (a .command) (a .l) d (recordOf (a .r)) (start .pre .4) in
+    let e = c .before .before .before .addr-end .ensures in
+    let room = typed-room (a .command) (a .l) d (recordOf (a .r)) k (third-more _ (c .enum-told3 .given .1)) in
+    omega (arith, e, room)
+
+part-third-encode-end : tie.Need-part-third-encode-end
+part-third-encode-end c = search needs
+
+third-encode-requires : tie.Need-third-encode-requires
+third-encode-requires c κs = search needs
+
+add-aprs-encode : tie.Need-add-aprs-encode
+add-aprs-encode c =
+    let start = c .before .before .before .before .before in
+    let a = start .args in
+    let d = now (a .frame) in
+    let k = known (a .command) (a .l) d (recordOf (a .r)) (start .pre .4) in
+    let e = c .before .before .addr-end .ensures in
+    let room = typed-room (a .command) (a .l) d (recordOf (a .r)) k (own-type (a .r .«aprs_type») (c .match .keys4) .more) in
+    omega (arith, e, end-size (a .r .digis) (a .l) (k .few) (start .pre .1))
+
+sub-aprs-encode : tie.Need-sub-aprs-encode
+sub-aprs-encode c =
+    let start = c .before .before .before .before .before in
+    let a = start .args in
+    let d = now (a .frame) in
+    let k = known (a .command) (a .l) d (recordOf (a .r)) (start .pre .4) in
+    let e = c .before .before .addr-end .ensures in
+    let room = typed-room (a .command) (a .l) d (recordOf (a .r)) k (own-type (a .r .«aprs_type») (c .match .keys4) .more) in
+    omega (arith, e, room)
+
+part-aprs-encode-start : tie.Need-part-aprs-encode-start
+part-aprs-encode-start c =
+    let start = c .before .before .before .before .before in
+    let a = start .args in
+    let d = now (a .frame) in
+    let k = known (a .command) (a .l) d (recordOf (a .r)) (start .pre .4) in
+    let e = c .before .before .addr-end .ensures in
+    let room = typed-room (a .command) (a .l) d (recordOf (a .r)) k (own-type (a .r .«aprs_type») (c .match .keys4) .more) in
+    omega (arith, e, room)
+
+part-aprs-encode-end : tie.Need-part-aprs-encode-end
+part-aprs-encode-end c = search needs
+
+aprs-encode-requires : tie.Need-aprs-encode-requires
+aprs-encode-requires c κs = search needs
+
+same-length : tie.Need-same-length
+same-length c = search needs
+
+returns : tie.Need-returns
+returns c = λ p head e at last.
+    let start = c .before .before .before .before .before .before .before .before .before .before .before in
+    let a = start .args in
+    let d = now (a .frame) in
+    let k = known (a .command) (a .l) d (recordOf (a .r)) (start .pre .4) in
+    let s = c .before .before .before .before .before .before .before .body-start in
+    text-does (a .command) (a .l) d (recordOf (a .r)) k p e head _ (a .at) _ (ap typeNumber (c .before .before .before .before .before .enum-told .given .1)) at last (s .result) (at-end (a .r) _ _ (c .before .before .before .before .before .before .before .before .addr-end .ensures) (s .ensures)) _ (c .before .before .push-text7 .ensures .0)
+
+same-length-2 : tie.Need-same-length-2
+same-length-2 c = search needs
+
+returns-2 : tie.Need-returns-2
+returns-2 c = λ p head e at last.
+    let start = c .before .before .before .before .before .before .before .before .before .before .before in
+    let a = start .args in
+    let d = now (a .frame) in
+    let k = known (a .command) (a .l) d (recordOf (a .r)) (start .pre .4) in
+    let s = c .before .before .before .before .before .before .before .body-start in
+    binary-does (a .command) (a .l) d (recordOf (a .r)) k p e head _ (a .at) _ (ap typeNumber (c .before .before .before .before .before .enum-told2 .given .1)) (s .result) (at-end (a .r) _ _ (c .before .before .before .before .before .before .before .before .addr-end .ensures) (s .ensures)) _ (c .before .before .push-bytes .ensures)
+
+same-length-3 : tie.Need-same-length-3
+same-length-3 c = search needs
+
+returns-3 : tie.Need-returns-3
+returns-3 c = λ p head e at last.
+    let start = c .before .before .before .before .before .before .before .before .before .before .before in
+    let a = start .args in
+    let d = now (a .frame) in
+    let k = known (a .command) (a .l) d (recordOf (a .r)) (start .pre .4) in
+    third-does (a .command) (a .l) d (recordOf (a .r)) k p e head _ (a .at) _ (ap typeNumber (c .before .before .before .before .before .enum-told3 .given .1)) _ (rw (c .before .before .before .before .before .before .before .before .addr-end .ensures) at (c .before .before .third-encode .ensures))
+
+same-length-4 : tie.Need-same-length-4
+same-length-4 c = search needs
+
+returns-4 : tie.Need-returns-4
+returns-4 c = λ p head e at last.
+    let start = c .before .before .before .before .before .before .before .before .before .before in
+    let a = start .args in
+    let d = now (a .frame) in
+    let k = known (a .command) (a .l) d (recordOf (a .r)) (start .pre .4) in
+    own-does (a .command) (a .l) d (recordOf (a .r)) k p e head _ (a .at) _ (own-type (a .r .«aprs_type») (c .before .before .before .before .before .match .keys4)) _ (rw (c .before .before .before .before .before .before .before .addr-end .ensures) at (c .before .before .aprs-encode .ensures))
+
+pub put-body-spec : {M : Type 1} → statement M
+put-body-spec =
+    tie.close
+    (tie.spec
+    addr-end-requires
+    body-start-requires
+    enum-told
+    sub-push-text7
+    part-push-text7-start
+    part-push-text7-end
+    push-text7-requires
+    enum-told-2
+    sub-push-bytes
+    part-push-bytes-start
+    part-push-bytes-end
+    push-bytes-requires
+    enum-told-3
+    add-third-encode
+    sub-third-encode
+    part-third-encode-start
+    part-third-encode-end
+    third-encode-requires
+    add-aprs-encode
+    sub-aprs-encode
+    part-aprs-encode-start
+    part-aprs-encode-end
+    aprs-encode-requires
+    same-length
+    returns
+    same-length-2
+    returns-2
+    same-length-3
+    returns-3
+    same-length-4
+    returns-4)

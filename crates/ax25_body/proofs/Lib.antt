@@ -1,0 +1,4 @@
+pub mod BodyLaws
+pub mod CodeLaws
+pub mod PieceLaws
+pub mod ThirdLaws
