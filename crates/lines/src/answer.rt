@@ -126,3 +126,40 @@ pub fn same_done(text: &[u8], store: &[u8], n: usize) -> Outcome {
     }
     same_first(piece(text, 1, b':'), store, n)
 }
+
+// What comes of two parts of an answer.
+fn both(a: Outcome, b: Outcome) -> Outcome {
+    match a {
+        Outcome::Equal => b,
+        Outcome::Differ => or_bad(b),
+        Outcome::Bad => Outcome::Bad,
+    }
+}
+
+// What comes of a part beside one that differs.
+fn or_bad(b: Outcome) -> Outcome {
+    match b {
+        Outcome::Bad => Outcome::Bad,
+        _ => Outcome::Differ,
+    }
+}
+
+// We have a number and the first n bytes of `out`, where it could be a refusal.
+pub fn same_marked(text: &[u8], v: u64, out: &[u8], n: usize) -> Outcome {
+    if is_refusal(text) {
+        return Outcome::Differ;
+    }
+    let first = same_number(piece(text, 0, b':'), v);
+    both(first, same_first(piece(text, 1, b':'), out, n))
+}
+
+// We have three numbers, where it could be a refusal.
+pub fn same_three(text: &[u8], u: u64, v: u64, w: u64) -> Outcome {
+    if is_refusal(text) {
+        return Outcome::Differ;
+    }
+    let first = same_number(piece(text, 0, b':'), u);
+    let second = same_number(piece(text, 1, b':'), v);
+    let third = same_number(piece(text, 2, b':'), w);
+    both(first, both(second, third))
+}

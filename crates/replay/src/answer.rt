@@ -1,14 +1,21 @@
 // What our functions answer, against the field that has the recorded answer.
+use ax25_address::classify::AprsType;
 use bits::read::Got;
 use bits::read::Taken;
+use kiss::Decoded;
+use kiss::Encoded;
+use kiss::Facts;
+use kiss::Summarised;
 use lines::answer::Outcome;
 use lines::answer::no_bytes;
 use lines::answer::no_number;
 use lines::answer::same_count;
 use lines::answer::same_done;
 use lines::answer::same_first;
+use lines::answer::same_marked;
 use lines::answer::same_number;
 use lines::answer::same_refusal;
+use lines::answer::same_three;
 use lines::answer::same_word;
 use lines::answer::same_written;
 use receiver::Push;
@@ -54,5 +61,47 @@ pub fn same_heard(text: &[u8], store: &[u8], ours: Push) -> Outcome {
         Push::Dropped => same_word(text, b"dropped"),
         Push::More => same_word(text, b"more"),
         Push::Done(n) => same_done(text, store, n),
+    }
+}
+
+// The code of a type.
+fn code(t: AprsType) -> u64 {
+    match t {
+        AprsType::Text => 0,
+        AprsType::Binary => 1,
+        AprsType::Position => 2,
+        AprsType::TimestampedPosition => 3,
+        AprsType::Message => 4,
+        AprsType::ThirdParty => 6,
+    }
+}
+
+// We have a refusal, or a type and the first bytes of `out`.
+pub fn same_encoded(text: &[u8], out: &[u8], ours: Encoded) -> Outcome {
+    match ours {
+        Encoded::Refused(n) => same_refusal(text, n),
+        Encoded::Bytes(n, t) => same_marked(text, code(t), out, n),
+    }
+}
+
+// We have a refusal or the facts of a frame.
+pub fn same_summarised(text: &[u8], ours: Summarised) -> Outcome {
+    match ours {
+        Summarised::Refused(n) => same_refusal(text, n),
+        Summarised::Is(facts) => same_facts(text, facts),
+    }
+}
+
+// We have the facts of a frame.
+fn same_facts(text: &[u8], ours: Facts) -> Outcome {
+    let t = code(ours.aprs_type);
+    same_three(text, t, ours.digis as u64, ours.ui as u64)
+}
+
+// We have a refusal, or a command and the first bytes of `out`.
+pub fn same_decoded(text: &[u8], out: &[u8], ours: Decoded) -> Outcome {
+    match ours {
+        Decoded::Refused(n) => same_refusal(text, n),
+        Decoded::Bytes(command, n) => same_marked(text, command as u64, out, n),
     }
 }

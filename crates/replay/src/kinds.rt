@@ -5,6 +5,9 @@ use crate::answer::same_answer;
 use crate::answer::same_counted;
 use crate::answer::same_got;
 use crate::answer::same_taken;
+use crate::codings::decode;
+use crate::codings::encode;
+use crate::codings::summary;
 use crate::history::history;
 use frame::Control;
 use lines::answer::Outcome;
@@ -18,10 +21,11 @@ use lines::field::piece;
 use lines::field::two_words;
 
 // How many kinds there are.
-pub const KINDS: usize = 12;
+pub const KINDS: usize = 15;
 
 // Their names, in order.
-const NAMES: [u8; 68] = *b"crc push bfi text take digits text7 val count fragment frame history";
+const NAMES: [u8; 90] =
+    *b"crc push bfi text take digits text7 val count fragment frame history encode summary decode";
 
 // Makes the call of a line again and compares the answers.
 pub fn run(kind: usize, line: &[u8]) -> Outcome {
@@ -39,8 +43,8 @@ fn numbers_of(kind: usize) -> usize
     ensures { λ r. ⌜ r ≤ 3 ⌝ }
 {
     match kind {
-        6 => 1,
-        3 | 4 | 5 | 10 => 2,
+        6 | 13 | 14 => 1,
+        3 | 4 | 5 | 10 | 12 => 2,
         9 => 3,
         _ => 0,
     }
@@ -84,7 +88,9 @@ fn call(kind: usize, v: &[u64; 3], few: &[u8; 4], s: &[u8], answer: &[u8]) -> Ou
         6 => text7(v[0], s, answer),
         7 => same_number(answer, bits::vb_val(s)),
         9 => within(kind, v[2], v, few, s, answer),
-        10 => within(kind, v[1], v, few, s, answer),
+        10 | 12 => within(kind, v[1], v, few, s, answer),
+        13 => summary(v[0], s, answer),
+        14 => within(kind, v[0], v, few, s, answer),
         _ => Outcome::Bad,
     }
 }
@@ -110,6 +116,8 @@ fn write(
 ) -> Outcome {
     match kind {
         9 => fragment(v[0], v[1], few[0], s, answer, out),
+        12 => encode(v[0], s, answer, out),
+        14 => decode(s, answer, out),
         _ => frame(v[0], few, s, answer, out),
     }
 }
