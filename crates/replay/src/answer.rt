@@ -94,8 +94,8 @@ pub fn same_summarised(text: &[u8], ours: Summarised) -> Outcome {
 
 // We have the facts of a frame.
 fn same_facts(text: &[u8], ours: Facts) -> Outcome {
-    let t = code(ours.aprs_type);
-    same_three(text, t, ours.digis as u64, ours.ui as u64)
+    let t = ours.aprs_type;
+    same_three(text, code(t), ours.digis as u64, ours.ui as u64)
 }
 
 // We have a refusal, or a command and the first bytes of `out`.
