@@ -10,15 +10,12 @@ use lines::answer::Outcome;
 use lines::answer::no_bytes;
 use lines::answer::no_number;
 use lines::answer::same_count;
-use lines::answer::same_done;
 use lines::answer::same_first;
 use lines::answer::same_marked;
 use lines::answer::same_number;
 use lines::answer::same_refusal;
 use lines::answer::same_three;
-use lines::answer::same_word;
 use lines::answer::same_written;
-use receiver::Push;
 use refusals::Answer;
 use sender::Counted;
 
@@ -51,16 +48,6 @@ pub fn same_answer(text: &[u8], out: &[u8], ours: Answer) -> Outcome {
     match ours {
         Answer::Refused(n) => same_refusal(text, n),
         Answer::Bytes(n) => same_written(text, out, n),
-    }
-}
-
-// We have what a receiver answers, with a message first in its store.
-pub fn same_heard(text: &[u8], store: &[u8], ours: Push) -> Outcome {
-    match ours {
-        Push::Refused(n) => same_refusal(text, n),
-        Push::Dropped => same_word(text, b"dropped"),
-        Push::More => same_word(text, b"more"),
-        Push::Done(n) => same_done(text, store, n),
     }
 }
 

@@ -8,7 +8,6 @@ use crate::answer::same_taken;
 use crate::codings::decode;
 use crate::codings::encode;
 use crate::codings::summary;
-use crate::history::history;
 use frame::Control;
 use lines::answer::Outcome;
 use lines::answer::same_bytes;
@@ -33,7 +32,7 @@ pub fn run(kind: usize, line: &[u8]) -> Outcome {
         1 => push(line),
         2 => bfi(line),
         8 => count(line),
-        11 => history(line),
+        11 => histories::history(line),
         _ => plain(kind, line),
     }
 }

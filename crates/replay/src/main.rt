@@ -2,7 +2,6 @@
 // A line of the input is one call: its kind, what goes in, and last the recorded answer. A line that starts with # is a comment.
 mod answer;
 mod codings;
-mod history;
 mod kinds;
 
 ghost use mathlib.Core.Path.{_≡_};

@@ -1,15 +1,17 @@
-// A history of calls on one receiver, all in one line.
+// Lines that are a history of calls on one receiver.
 ghost use mathlib.Core.Path.{_≡_};
 ghost use lib.ListN.{length};
-use crate::answer::same_heard;
 use lines::answer::Outcome;
+use lines::answer::same_done;
 use lines::answer::same_refusal;
+use lines::answer::same_word;
 use lines::field::all_hex;
 use lines::field::call_of;
 use lines::field::field;
 use lines::field::fields;
 use lines::field::piece;
 use receiver::Fresh;
+use receiver::Push;
 use receiver::Pushed;
 use receiver::Reassembler;
 
@@ -123,5 +125,15 @@ fn told(text: &[u8], space: &[u8], pushed: Pushed) -> Step {
     Step {
         outcome: same_heard(text, space, answer),
         receiver,
+    }
+}
+
+// We have what a receiver answers, with a message first in its store.
+fn same_heard(text: &[u8], store: &[u8], ours: Push) -> Outcome {
+    match ours {
+        Push::Refused(n) => same_refusal(text, n),
+        Push::Dropped => same_word(text, b"dropped"),
+        Push::More => same_word(text, b"more"),
+        Push::Done(n) => same_done(text, store, n),
     }
 }
