@@ -1,60 +1,123 @@
-// The kinds of lines. A new kind is a function here, a row of `name`, a row of `run` and one more in `KINDS`.
+// The kinds of lines. A new kind is a function, a name, a row of `run` or `call`, and one more in `KINDS`.
 ghost use Prim.Native.Nat.{_≤_};
 ghost use lib.ListN.{length};
-use crate::answer::Outcome;
 use crate::answer::same_answer;
-use crate::answer::same_bytes;
 use crate::answer::same_counted;
 use crate::answer::same_got;
-use crate::answer::same_number;
 use crate::answer::same_taken;
-use crate::field::all_hex;
-use crate::field::field;
-use crate::field::fields;
-use crate::field::find;
-use crate::field::hex;
-use crate::field::numbers;
-use crate::history::history;
+use codings::decode;
+use codings::encode;
+use codings::summary;
 use frame::Control;
+use lines::answer::Outcome;
+use lines::answer::same_bytes;
+use lines::answer::same_number;
+use lines::field::field;
+use lines::field::inputs;
+use lines::field::last;
+use lines::field::numbers;
+use lines::field::piece;
+use lines::field::two_words;
 
 // How many kinds there are.
-pub const KINDS: usize = 12;
+pub const KINDS: usize = 15;
 
-// The name of a kind, with blanks behind it.
-fn name(kind: usize) -> [u8; 12] {
-    match kind {
-        0 => *b"crc         ",
-        1 => *b"push        ",
-        2 => *b"bfi         ",
-        3 => *b"text        ",
-        4 => *b"take        ",
-        5 => *b"digits      ",
-        6 => *b"text7       ",
-        7 => *b"val         ",
-        8 => *b"count       ",
-        9 => *b"fragment    ",
-        10 => *b"frame       ",
-        11 => *b"history     ",
-        _ => *b"            ",
-    }
-}
+// Their names, in order.
+const NAMES: [u8; 90] =
+    *b"crc push bfi text take digits text7 val count fragment frame history encode summary decode";
 
 // Makes the call of a line again and compares the answers.
 pub fn run(kind: usize, line: &[u8]) -> Outcome {
     match kind {
-        0 => crc(line),
         1 => push(line),
         2 => bfi(line),
-        3 => text(line),
-        4 => take(line),
-        5 => digits(line),
-        6 => text7(line),
-        7 => val(line),
         8 => count(line),
-        9 => fragment(line),
-        10 => frame(line),
-        11 => history(line),
+        11 => histories::history(line),
+        _ => plain(kind, line),
+    }
+}
+
+// How many numbers stand behind the kind in a line of numbers, a few bytes, bytes and an answer.
+fn numbers_of(kind: usize) -> usize
+    ensures { λ r. ⌜ r ≤ 3 ⌝ }
+{
+    match kind {
+        6 | 13 | 14 => 1,
+        3 | 4 | 5 | 10 | 12 => 2,
+        9 => 3,
+        _ => 0,
+    }
+}
+
+// How many bytes are the few.
+fn few_of(kind: usize) -> usize
+    ensures { λ r. ⌜ r ≤ 4 ⌝ }
+{
+    match kind {
+        9 => 1,
+        10 => 4,
+        _ => 0,
+    }
+}
+
+// Reads a line of numbers, a few bytes, bytes and an answer, and makes its call.
+fn plain(kind: usize, line: &[u8]) -> Outcome {
+    let k = numbers_of(kind);
+    let m = few_of(kind);
+    let mut v = [0u64; 3];
+    let mut few = [0u8; 4];
+    let mut data = io::large_buffer();
+    let read = inputs(line, &mut v[0..k], &mut few[0..m], &mut data);
+    if !read.good {
+        return Outcome::Bad;
+    }
+    let n = read.n;
+    call(kind, &v, &few, &data[0..n], last(line))
+}
+
+// Makes the call of a line that was read.
+fn call(kind: usize, v: &[u64; 3], few: &[u8; 4], s: &[u8], answer: &[u8]) -> Outcome
+    requires { ⌜ length (now s) ≤ 65536 ⌝ }
+{
+    match kind {
+        0 => crc(s, answer),
+        3 => text(v[0], v[1], s, answer),
+        4 => take(v[0], v[1], s, answer),
+        5 => digits(v[0], v[1], s, answer),
+        6 => text7(v[0], s, answer),
+        7 => same_number(answer, bits::vb_val(s)),
+        9 => within(kind, v[2], v, few, s, answer),
+        10 | 12 => within(kind, v[1], v, few, s, answer),
+        13 => summary(v[0], s, answer),
+        14 => within(kind, v[0], v, few, s, answer),
         _ => Outcome::Bad,
+    }
+}
+
+// Makes a call that writes to an output of so many bytes.
+fn within(kind: usize, room: u64, v: &[u64; 3], few: &[u8; 4], s: &[u8], answer: &[u8]) -> Outcome {
+    let mut out = io::large_buffer();
+    let n = room as usize;
+    if out.len() < n {
+        return Outcome::Bad;
+    }
+    write(kind, v, few, s, answer, &mut out[0..n])
+}
+
+// Makes a call that writes to `out`.
+fn write(
+    kind: usize,
+    v: &[u64; 3],
+    few: &[u8; 4],
+    s: &[u8],
+    answer: &[u8],
+    out: &mut [u8],
+) -> Outcome {
+    match kind {
+        9 => fragment(v[0], v[1], few[0], s, answer, out),
+        12 => encode(v[0], s, answer, out),
+        14 => decode(s, answer, out),
+        _ => frame(v[0], few, s, answer, out),
     }
 }
 
@@ -72,31 +135,18 @@ pub fn kind_of(line: &[u8]) -> usize {
 
 // Whether a line names this kind.
 fn is_kind(line: &[u8], kind: usize) -> bool {
-    let padded = name(kind);
-    let n = find(&padded, 0, b' ');
-    check::same(field(line, 0), &padded[0..n])
+    check::same(field(line, 0), piece(&NAMES, kind, b' '))
 }
 
 // Writes the name of a kind.
 pub fn print_name(kind: usize) {
-    let padded = name(kind);
-    let n = find(&padded, 0, b' ');
-    io::write_all(1, &padded[0..n]);
+    io::write_all(1, piece(&NAMES, kind, b' '));
 }
 
 // crc HEX CRC
-fn crc(line: &[u8]) -> Outcome {
-    if fields(line) != 3 {
-        return Outcome::Bad;
-    }
-    let mut data = io::large_buffer();
-    let read = hex(field(line, 1), &mut data);
-    if !read.good {
-        return Outcome::Bad;
-    }
-    let n = read.n;
-    let c = crc::crc16_genibus(&data[0..n]);
-    same_bytes(field(line, 2), &[(c / 256) as u8, (c % 256) as u8])
+fn crc(data: &[u8], answer: &[u8]) -> Outcome {
+    let c = crc::crc16_genibus(data);
+    same_bytes(answer, &[(c / 256) as u8, (c % 256) as u8])
 }
 
 // push V AT W N HEX: V in AT bits, then the low N bits of W
@@ -126,63 +176,16 @@ fn bfi(line: &[u8]) -> Outcome {
     same_bytes(field(line, 5), &out[0..end])
 }
 
-// V AT W N of a line; not good where a width is more than a word's.
-struct Words {
-    good: bool,
-    v: u64,
-    at: usize,
-    w: u64,
-    n: usize,
-}
-
-// Reads the numbers of a push or bfi line.
-fn two_words(line: &[u8]) -> Words
-    ensures { λ r. ⌜ (r .at ≤ 64) × (r .n ≤ 64) ⌝ }
-{
-    let bad = Words {
-        good: false,
-        v: 0,
-        at: 0,
-        w: 0,
-        n: 0,
-    };
-    let mut v = [0u64; 4];
-    if !numbers(line, 6, &mut v) {
-        return bad;
-    }
-    if 64 < v[1] {
-        return bad;
-    }
-    if 64 < v[3] {
-        return bad;
-    }
-    Words {
-        good: true,
-        v: v[0],
-        at: v[1] as usize,
-        w: v[2],
-        n: v[3] as usize,
-    }
-}
-
 // text V AT TEXT HEX: V in AT bits, then a text of seven bits a byte
-fn text(line: &[u8]) -> Outcome {
-    let mut v = [0u64; 2];
-    if !numbers(line, 5, &mut v) {
+fn text(v: u64, at: u64, s: &[u8], answer: &[u8]) -> Outcome
+    requires { ⌜ length (now s) ≤ 65536 ⌝ }
+{
+    if 64 < at {
         return Outcome::Bad;
     }
-    if 64 < v[1] {
-        return Outcome::Bad;
-    }
-    let mut data = io::large_buffer();
-    let read = hex(field(line, 3), &mut data);
-    if !read.good {
-        return Outcome::Bad;
-    }
-    let n = read.n;
     let mut out = io::large_buffer();
-    let end = push_text(&mut out, v[0], v[1] as usize, &data[0..n]);
-    same_bytes(field(line, 4), &out[0..end])
+    let end = push_text(&mut out, v, at as usize, s);
+    same_bytes(answer, &out[0..end])
 }
 
 // Makes the calls of a text line. How many bytes were written: the pad goes up to a whole byte.
@@ -196,72 +199,32 @@ fn push_text(out: &mut [u8], v: u64, at: usize, text: &[u8]) -> usize
 }
 
 // take AT N HEX VALUE: the number of N bits at AT
-fn take(line: &[u8]) -> Outcome {
-    let mut v = [0u64; 2];
-    if !numbers(line, 5, &mut v) {
+fn take(at: u64, n: u64, s: &[u8], answer: &[u8]) -> Outcome
+    requires { ⌜ length (now s) ≤ 65536 ⌝ }
+{
+    if 64 < n {
         return Outcome::Bad;
     }
-    if 64 < v[1] {
-        return Outcome::Bad;
-    }
-    let mut data = io::large_buffer();
-    let read = hex(field(line, 3), &mut data);
-    if !read.good {
-        return Outcome::Bad;
-    }
-    let n = read.n;
-    let ours = bits::read::take(&data[0..n], v[0] as usize, v[1] as usize);
-    same_taken(field(line, 4), ours)
+    same_taken(answer, bits::read::take(s, at as usize, n as usize))
 }
 
 // digits AT N HEX VALUE: the number whose decimal digits are the N bits at AT
-fn digits(line: &[u8]) -> Outcome {
-    let mut v = [0u64; 2];
-    if !numbers(line, 5, &mut v) {
+fn digits(at: u64, n: u64, s: &[u8], answer: &[u8]) -> Outcome
+    requires { ⌜ length (now s) ≤ 65536 ⌝ }
+{
+    if 16 < n {
         return Outcome::Bad;
     }
-    if 16 < v[1] {
-        return Outcome::Bad;
-    }
-    let mut data = io::large_buffer();
-    let read = hex(field(line, 3), &mut data);
-    if !read.good {
-        return Outcome::Bad;
-    }
-    let n = read.n;
-    let ours = bits::read::text(&data[0..n], v[0] as usize, v[1] as usize);
-    same_taken(field(line, 4), ours)
+    same_taken(answer, bits::read::text(s, at as usize, n as usize))
 }
 
 // text7 AT HEX TEXT: the text of seven bits a byte from AT on
-fn text7(line: &[u8]) -> Outcome {
-    let mut v = [0u64; 1];
-    if !numbers(line, 4, &mut v) {
-        return Outcome::Bad;
-    }
-    let mut data = io::large_buffer();
-    let read = hex(field(line, 2), &mut data);
-    if !read.good {
-        return Outcome::Bad;
-    }
-    let n = read.n;
+fn text7(at: u64, s: &[u8], answer: &[u8]) -> Outcome
+    requires { ⌜ length (now s) ≤ 65536 ⌝ }
+{
     let mut out = io::large_buffer();
-    let ours = bits::read::text7(&data[0..n], v[0] as usize, &mut out, 0);
-    same_got(field(line, 3), &out, ours)
-}
-
-// val HEX NUMBER
-fn val(line: &[u8]) -> Outcome {
-    if fields(line) != 3 {
-        return Outcome::Bad;
-    }
-    let mut data = io::large_buffer();
-    let read = hex(field(line, 1), &mut data);
-    if !read.good {
-        return Outcome::Bad;
-    }
-    let n = read.n;
-    same_number(field(line, 2), bits::vb_val(&data[0..n]))
+    let ours = bits::read::text7(s, at as usize, &mut out, 0);
+    same_got(answer, &out, ours)
 }
 
 // count TOTAL FIELD ANSWER
@@ -277,72 +240,18 @@ fn count(line: &[u8]) -> Outcome {
 }
 
 // fragment FIELD K ROOM MASK HEX ANSWER: fragment K of a message, to an output of ROOM bytes
-fn fragment(line: &[u8]) -> Outcome {
-    let mut v = [0u64; 3];
-    if !numbers(line, 7, &mut v) {
-        return Outcome::Bad;
-    }
-    let mut mask = [0u8; 1];
-    if !all_hex(field(line, 4), &mut mask) {
-        return Outcome::Bad;
-    }
-    let mut out = io::large_buffer();
-    let room = v[2] as usize;
-    if out.len() < room {
-        return Outcome::Bad;
-    }
-    send(
-        line,
-        v[0] as usize,
-        v[1] as usize,
-        mask[0],
-        &mut out[0..room],
-    )
-}
-
-// Makes the call of a fragment line.
-fn send(line: &[u8], size: usize, k: usize, mask: u8, out: &mut [u8]) -> Outcome {
-    let mut message = io::large_buffer();
-    let read = hex(field(line, 5), &mut message);
-    if !read.good {
-        return Outcome::Bad;
-    }
-    let n = read.n;
-    let ours = sender::fragment(&message[0..n], size, mask, k, out);
-    same_answer(field(line, 6), out, ours)
+fn fragment(size: u64, k: u64, mask: u8, s: &[u8], answer: &[u8], out: &mut [u8]) -> Outcome {
+    let ours = sender::fragment(s, size as usize, mask, k as usize, out);
+    same_answer(answer, out, ours)
 }
 
 // frame FIELD ROOM BYTES HEX ANSWER: the frame of a fragment, to an output of ROOM bytes; BYTES are reply, compressed, hint and marker
-fn frame(line: &[u8]) -> Outcome {
-    let mut v = [0u64; 2];
-    if !numbers(line, 6, &mut v) {
-        return Outcome::Bad;
-    }
-    let mut out = io::large_buffer();
-    let room = v[1] as usize;
-    if out.len() < room {
-        return Outcome::Bad;
-    }
-    build(line, v[0] as usize, &mut out[0..room])
-}
-
-// Makes the call of a frame line.
-fn build(line: &[u8], size: usize, out: &mut [u8]) -> Outcome {
-    let mut b = [0u8; 4];
-    if !all_hex(field(line, 3), &mut b) {
-        return Outcome::Bad;
-    }
-    let mut data = io::large_buffer();
-    let read = hex(field(line, 4), &mut data);
-    if !read.good {
-        return Outcome::Bad;
-    }
-    let n = read.n;
+fn frame(size: u64, b: &[u8; 4], s: &[u8], answer: &[u8], out: &mut [u8]) -> Outcome {
     let control = Control {
         reply: b[0],
         compressed: b[1] != 0,
         hint: b[2],
     };
-    let ours = frame::build_frame(size, &data[0..n], control, b[3], out);
-    same_answer(field(line, 5), out, ours)
+    let ours = frame::build_frame(size as usize, s, control, b[3], out);
+    same_answer(answer, out, ours)
 }

@@ -1,14 +1,16 @@
 // Reads recorded calls from standard input, makes each again with our functions, and says where the answers differ.
 // A line of the input is one call: its kind, what goes in, and last the recorded answer. A line that starts with # is a comment.
 mod answer;
-mod field;
-mod history;
 mod kinds;
 
 ghost use mathlib.Core.Path.{_≡_};
 ghost use lib.ListN.{length};
-use answer::Outcome;
 use kinds::KINDS;
+use lines::answer::Outcome;
+use lines::field::find;
+use lines::tell::is_comment;
+use lines::tell::print_counts;
+use lines::tell::print_place;
 
 // Room for the input. The contract gives only the length, so that no caller's proof unfolds the array.
 // Not optimized, as `rt try` runs it too, the program makes copies of the room that overflow a stack of 8 MiB.
@@ -44,7 +46,7 @@ fn replay(s: &[u8]) {
     let mut at: usize = 0;
     let mut number: u64 = 0;
     while at < s.len() {
-        let end = field::find(s, at, b'\n');
+        let end = find(s, at, b'\n');
         number += 1;
         line(&s[at..end], number, &mut equal, &mut differ);
         at = end + 1;
@@ -73,25 +75,11 @@ fn line(s: &[u8], number: u64, equal: &mut [u64; KINDS], differ: &mut [u64; KIND
     }
 }
 
-fn is_comment(s: &[u8]) -> bool {
-    if s.len() == 0 {
-        return false;
-    }
-    s[0] == b'#'
-}
-
 // One more of a kind. No input is long enough for the count to wrap.
 fn count(counts: &mut [u64; KINDS], kind: usize) {
     if kind < KINDS {
         counts[kind] = std::num::wrapping_add_u64(counts[kind], 1);
     }
-}
-
-// The start of what is said of a line.
-fn print_place(number: u64) {
-    io::write_all(1, b"line ");
-    io::print_decimal(1, number);
-    io::write_all(1, b": ");
 }
 
 // Writes the counts, a line for each kind.
@@ -102,17 +90,4 @@ fn report(equal: &[u64; KINDS], differ: &[u64; KINDS]) {
         print_counts(equal[kind], differ[kind]);
         kind += 1;
     }
-}
-
-// How many calls of a kind were equal, and how many differ where any does.
-fn print_counts(equal: u64, differ: u64) {
-    io::write_all(1, b" ");
-    io::print_decimal(1, equal);
-    io::write_all(1, b" equal");
-    if 0 < differ {
-        io::write_all(1, b", ");
-        io::print_decimal(1, differ);
-        io::write_all(1, b" differ");
-    }
-    io::write_all(1, b"\n");
 }

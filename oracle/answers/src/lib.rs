@@ -1,6 +1,7 @@
 //! The answers of the unmodified source in the terms of document 01: values, or the number of a refusal.
 
 pub mod bits;
+pub mod cases;
 pub mod frames;
 pub mod hex;
 pub mod messages;

@@ -49,11 +49,16 @@ fn the_recorded_file_is_well_formed() {
     let out = Command::new(env!("CARGO_BIN_EXE_record")).output().unwrap();
     assert!(out.status.success());
     let file = String::from_utf8(out.stdout).unwrap();
-    assert!(file.is_ascii() && file.ends_with('\n') && file.len() < 1_000_000);
+    assert!(file.is_ascii() && file.ends_with('\n') && file.len() < 2_000_000);
     for line in file.lines().filter(|line| !line.starts_with('#')) {
         assert!(line.split(' ').all(|word| !word.is_empty()), "{line}");
     }
     assert!(file.contains("\ncrc 313233343536373839 D64E\n"));
     assert!(file.contains("\ncrc - 0000\n"));
     assert!(file.contains("\ntext7 0 - none\n"));
+    assert!(file.contains("\nencode 0 5 86A240404040604040404040406103F078 0:40AC0078FF\n"));
+    assert!(file.contains("\nencode 2 2 - 0:21FF\n"));
+    for refusal in 1..=6 {
+        assert!(file.lines().any(|l| l.starts_with("encode") && l.ends_with(&format!(" refused:{refusal}"))));
+    }
 }

@@ -2,12 +2,13 @@
 
 use answers::hex::to_hex;
 use answers::random::Random;
-use answers::{Answer, FIELDS, Receiver, bits};
+use answers::{Answer, FIELDS, Receiver, bits, cases, frames};
 
 const SEED: u64 = 0x239A_C292_3920_2601;
 
 /// Every kind of line in the order of the file; each function writes one kind, with numbers of its own.
-const KINDS: [fn(&mut String); 12] = [crc, push, bfi, text, take, digits, text7, val, count, fragment, frame, history];
+const KINDS: [fn(&mut String); 15] =
+    [crc, push, bfi, text, take, digits, text7, val, count, fragment, frame, history, encode, summary, decode];
 
 fn main() {
     let mut out = header();
@@ -600,6 +601,123 @@ fn message(r: &mut Random, total: usize) -> Vec<u8> {
     let mut bytes = r.bytes(total);
     bytes[0] &= 0x7F;
     bytes
+}
+
+fn encode(out: &mut String) {
+    *out += "\
+# encode CMD ROOM HEX ANSWER: data coded under a command, to an output of ROOM bytes; an answer is TYPE:HEX or refused:N.
+# Every type and refusal, calls and bodies of every odd kind, a text at every place of a bit, drawn ones, the longest.
+";
+    let mut r = Random::new(SEED, "encode");
+    for (k, (command, data)) in cases::all(&mut r).into_iter().enumerate() {
+        for room in rooms(message_of(command, &data)).into_iter().take(if k % 5 == 0 { 2 } else { 1 }) {
+            encode_line(out, command, &data, room);
+        }
+    }
+    for (command, data) in cases::texts(&mut r).into_iter().chain(drawn_data(&mut r, 400)) {
+        let room = message_of(command, &data).map_or(0, |m| m.len() + [0, 0, 0, 7][r.below(4)]);
+        encode_line(out, command, &data, room);
+    }
+    for (command, data) in cases::longest(&mut r) {
+        encode_line(out, command, &data, 5_000);
+    }
+}
+
+fn encode_line(out: &mut String, command: u8, data: &[u8], room: usize) {
+    let answer = answers::encode(command, data).and_then(|(m, typ)| Ok(format!("{typ}:{}", to_hex(&within(m, room)?))));
+    line!(out, "encode", command, room, to_hex(data), or_refused(answer));
+}
+
+fn summary(out: &mut String) {
+    *out += "# summary CMD HEX ANSWER: type, digipeaters and 1 where control is 03, as TYPE:DIGIS:UI, or refused:N.\n";
+    let mut r = Random::new(SEED, "summary");
+    let short = |(_, data): &(u8, Vec<u8>)| data.len() < 60;
+    let some = cases::all(&mut r).into_iter().filter(short).step_by(4);
+    let all = cases::refused().into_iter().chain(cases::digipeaters()).chain(some);
+    for (command, data) in all.chain(drawn_data(&mut r, 200)).chain(cases::longest(&mut r).into_iter().skip(3)) {
+        summary_line(out, command, &data);
+    }
+}
+
+fn summary_line(out: &mut String, command: u8, data: &[u8]) {
+    let answer = answers::summary(command, data).map(|(typ, digis, ui)| format!("{typ}:{digis}:{}", u8::from(ui)));
+    line!(out, "summary", command, to_hex(data), or_refused(answer));
+}
+
+fn decode(out: &mut String) {
+    *out += "\
+# decode ROOM HEX ANSWER: a message decoded to an output of ROOM bytes; an answer is CMD:HEX or refused:N. Coded messages,
+# the same cut and damaged, what no coder writes, any bytes, and the longest, one of which has the longest data.
+";
+    let mut r = Random::new(SEED, "decode");
+    let coded: Vec<Vec<u8>> = cases::all(&mut r).iter().filter_map(|(command, d)| message_of(*command, d)).collect();
+    for (k, message) in coded.iter().step_by(2).chain(&cases::messages(&mut r)).enumerate() {
+        for room in rooms(data_of(message)).into_iter().take(if k % 5 == 0 { 2 } else { 1 }) {
+            decode_line(out, message, room);
+        }
+    }
+    for (command, data) in cases::texts(&mut r).into_iter().chain(drawn_data(&mut r, 200)) {
+        let mut message = message_of(command, &data).unwrap_or_default();
+        if r.below(4) == 0 {
+            frames::damage(&mut r, &mut message);
+        }
+        let room = data_of(&message).map_or(0, |d| d.len() + [0, 0, 0, 7][r.below(4)]);
+        decode_line(out, &message, room);
+    }
+    cut_messages(out, &coded);
+    for n in 0..60 {
+        for _ in 0..3 {
+            let message = r.bytes(n);
+            for room in rooms(data_of(&message)) {
+                decode_line(out, &message, room);
+            }
+        }
+    }
+    for message in cases::long_messages(&mut r) {
+        decode_line(out, &message, data_of(&message).map_or(0, |d| d.len()));
+    }
+    decode_line(out, &cases::largest(), 45_761);
+}
+
+/// A message of each type at every length.
+fn cut_messages(out: &mut String, coded: &[Vec<u8>]) {
+    let mut seen = Vec::new();
+    for message in coded {
+        let Ok((command, data)) = answers::decode(message) else { continue };
+        let kind = answers::encode(command, &data).map(|(_, typ)| (command, typ));
+        if message.len() > 16 && message.len() < 50 && !seen.contains(&kind) {
+            for n in 0..message.len() {
+                decode_line(out, &message[..n], 200);
+            }
+            seen.push(kind);
+        }
+    }
+}
+
+fn decode_line(out: &mut String, message: &[u8], room: usize) {
+    let answer =
+        answers::decode(message).and_then(|(command, d)| Ok(format!("{command}:{}", to_hex(&within(d, room)?))));
+    line!(out, "decode", room, to_hex(message), or_refused(answer));
+}
+
+/// The message that data are coded to, where they are.
+fn message_of(command: u8, data: &[u8]) -> Option<Vec<u8>> {
+    answers::encode(command, data).ok().map(|(message, _)| message)
+}
+
+/// The data that a message is decoded to, where it is.
+fn data_of(message: &[u8]) -> Option<Vec<u8>> {
+    answers::decode(message).ok().map(|(_, data)| data)
+}
+
+/// As much room as an answer takes and one byte less; for a refusal none.
+fn rooms(answer: Option<Vec<u8>>) -> Vec<usize> {
+    answer.map_or(vec![0], |bytes| vec![bytes.len(), bytes.len().saturating_sub(1)])
+}
+
+/// So many drawn data of at most 100 bytes.
+fn drawn_data(r: &mut Random, n: usize) -> Vec<(u8, Vec<u8>)> {
+    std::iter::repeat_with(|| frames::data(r)).filter(|(_, data)| data.len() <= 100).take(n).collect()
 }
 
 fn or_refused<T: ToString>(answer: Result<T, u8>) -> String {

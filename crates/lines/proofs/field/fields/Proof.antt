@@ -1,10 +1,10 @@
--- `replay::field::fields` is safe and ends: the place goes up to the length.
+-- `lines::field::fields` is safe and ends: the place goes up to the length.
 -- Assumes nothing.
 use borrow.Author.Needs.{needs}
 use Prim.Native.Nat.{_-_, _≤_}
 use lib.ListN.{length}
-use Rattle.replay.proofs.field.fields.Statement.{statement}
-use Rattle.replay.proofs.field.fields.Tie as tie
+use Rattle.lines.proofs.field.fields.Statement.{statement}
+use Rattle.lines.proofs.field.fields.Tie as tie
 
 abbrev Inv-loop : tie.InvT-loop
 Inv-loop line n₀ i₀ n i = i ≤ length line

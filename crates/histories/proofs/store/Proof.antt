@@ -1,10 +1,10 @@
--- `replay::history::store` has as many elements as its type says, by the law of `replicate` and no computing.
+-- `histories::store` has as many elements as its type says, by the law of `replicate` and no computing.
 -- Assumes nothing.
 use Prim.Native.Nat.{ℕ}
 use mathlib.Core.Path.{_≡_, sym}
 use lib.ListN.{length, replicate, length-replicate}
-use Rattle.replay.proofs.history.store.Statement.{statement}
-use Rattle.replay.proofs.history.store.Tie as tie
+use Rattle.histories.proofs.store.Statement.{statement}
+use Rattle.histories.proofs.store.Tie as tie
 
 known : 5000 ≡ length {0} {A = ℕ} (replicate {0} {A = ℕ} 5000 0)
 known = sym (length-replicate {0} {A = ℕ} 5000 0)

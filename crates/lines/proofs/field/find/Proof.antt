@@ -1,10 +1,10 @@
--- `replay::field::find` meets its contract: the place goes from the start up to the length.
+-- `lines::field::find` meets its contract: the place goes from the start up to the length.
 -- Assumes nothing.
 use borrow.Author.Needs.{needs}
 use Prim.Native.Nat.{_-_, _≤_}
 use lib.ListN.{length}
-use Rattle.replay.proofs.field.find.Statement.{statement}
-use Rattle.replay.proofs.field.find.Tie as tie
+use Rattle.lines.proofs.field.find.Statement.{statement}
+use Rattle.lines.proofs.field.find.Tie as tie
 
 abbrev Inv-loop : tie.InvT-loop
 Inv-loop s from b i₀ i = (from ≤ i) × (i ≤ length s)

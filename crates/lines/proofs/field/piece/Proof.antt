@@ -1,10 +1,10 @@
--- `replay::field::piece` is safe and ends: after i pieces the place is within the text.
+-- `lines::field::piece` is safe and ends: after i pieces the place is within the text.
 -- Assumes nothing.
 use borrow.Author.Needs.{needs}
 use Prim.Native.Nat.{_-_, _≤_}
 use lib.ListN.{length}
-use Rattle.replay.proofs.field.piece.Statement.{statement}
-use Rattle.replay.proofs.field.piece.Tie as tie
+use Rattle.lines.proofs.field.piece.Statement.{statement}
+use Rattle.lines.proofs.field.piece.Tie as tie
 
 abbrev Inv-loop : tie.InvT-loop
 Inv-loop s k b at₀ i₀ at i = (i ≤ k) × (at ≤ length s)

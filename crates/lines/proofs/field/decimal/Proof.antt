@@ -1,10 +1,10 @@
--- `replay::field::decimal` is safe and ends: the place goes up to the length.
+-- `lines::field::decimal` is safe and ends: the place goes up to the length.
 -- Assumes nothing.
 use borrow.Author.Needs.{needs}
 use Prim.Native.Nat.{_-_, _≤_}
 use lib.ListN.{length}
-use Rattle.replay.proofs.field.decimal.Statement.{statement}
-use Rattle.replay.proofs.field.decimal.Tie as tie
+use Rattle.lines.proofs.field.decimal.Statement.{statement}
+use Rattle.lines.proofs.field.decimal.Tie as tie
 
 abbrev Inv-loop : tie.InvT-loop
 Inv-loop text v₀ i₀ v i = i ≤ length text

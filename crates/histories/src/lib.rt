@@ -1,17 +1,17 @@
-// A history of calls on one receiver, all in one line.
+// Lines that are a history of calls on one receiver.
 ghost use mathlib.Core.Path.{_≡_};
 ghost use lib.ListN.{length};
-use crate::answer::Outcome;
-use crate::answer::same_heard;
-use crate::answer::same_refusal;
-use crate::field::Number;
-use crate::field::all_hex;
-use crate::field::decimal;
-use crate::field::field;
-use crate::field::fields;
-use crate::field::hex;
-use crate::field::piece;
+use lines::answer::Outcome;
+use lines::answer::same_done;
+use lines::answer::same_refusal;
+use lines::answer::same_word;
+use lines::field::all_hex;
+use lines::field::call_of;
+use lines::field::field;
+use lines::field::fields;
+use lines::field::piece;
 use receiver::Fresh;
+use receiver::Push;
 use receiver::Pushed;
 use receiver::Reassembler;
 
@@ -60,39 +60,62 @@ fn calls(line: &[u8], receiver: Reassembler) -> Outcome {
     Outcome::Equal
 }
 
-// One call: p:FIELD:HEX=ANSWER is a push, j:N:HEX=ANSWER a join, r a reset.
+// One call: r is a reset, p:FIELD:HEX=ANSWER a push, j:N:HEX=ANSWER a join.
 fn call(receiver: Reassembler, space: &mut [u8], text: &[u8]) -> Step {
-    let what = piece(text, 0, b'=');
-    let kind = piece(what, 0, b':');
-    if check::same(kind, b"r") {
+    if check::same(text, b"r") {
         return Step {
             outcome: Outcome::Equal,
             receiver: receiver.reset(),
         };
     }
-    let bad = Step {
-        outcome: Outcome::Bad,
-        receiver,
-    };
+    hear(receiver, space, piece(text, 0, b'='), piece(text, 1, b'='))
+}
+
+// Reads a push or a join and makes it.
+fn hear(receiver: Reassembler, space: &mut [u8], what: &[u8], answer: &[u8]) -> Step {
     let mut data = io::large_buffer();
-    let read = hex(piece(what, 2, b':'), &mut data);
-    if !read.good {
-        return bad;
+    let call = call_of(what, &mut data);
+    if !call.good {
+        return bad(receiver);
     }
-    let size = read.n;
-    let Number::Is(n) = decimal(piece(what, 1, b':')) else {
-        return bad;
-    };
-    let answer = piece(text, 1, b'=');
+    let size = call.size;
+    let kind = piece(what, 0, b':');
+    take_in(
+        receiver,
+        space,
+        kind,
+        &data[0..size],
+        call.n as usize,
+        answer,
+    )
+}
+
+// Makes a push or a join.
+fn take_in(
+    receiver: Reassembler,
+    space: &mut [u8],
+    kind: &[u8],
+    data: &[u8],
+    n: usize,
+    answer: &[u8],
+) -> Step {
     if check::same(kind, b"p") {
-        let pushed = receiver.push(space, &data[0..size], n as usize);
+        let pushed = receiver.push(space, data, n);
         return told(answer, space, pushed);
     }
     if check::same(kind, b"j") {
-        let pushed = receiver.join(space, &data[0..size], n as usize);
+        let pushed = receiver.join(space, data, n);
         return told(answer, space, pushed);
     }
-    bad
+    bad(receiver)
+}
+
+// A call that is not understood.
+fn bad(receiver: Reassembler) -> Step {
+    Step {
+        outcome: Outcome::Bad,
+        receiver,
+    }
 }
 
 // What came of a push or a join.
@@ -102,5 +125,15 @@ fn told(text: &[u8], space: &[u8], pushed: Pushed) -> Step {
     Step {
         outcome: same_heard(text, space, answer),
         receiver,
+    }
+}
+
+// We have what a receiver answers, with a message first in its store.
+fn same_heard(text: &[u8], store: &[u8], ours: Push) -> Outcome {
+    match ours {
+        Push::Refused(n) => same_refusal(text, n),
+        Push::Dropped => same_word(text, b"dropped"),
+        Push::More => same_word(text, b"more"),
+        Push::Done(n) => same_done(text, store, n),
     }
 }

@@ -1,11 +1,11 @@
--- `replay::field::digits` is safe and ends, and `out` keeps its length.
+-- `lines::field::digits` is safe and ends, and `out` keeps its length.
 -- Assumes nothing.
 use borrow.Author.Needs.{needs}
 use mathlib.Core.Path.{_≡_}
 use Prim.Native.Nat.{_-_, _≤_}
 use lib.ListN.{length}
-use Rattle.replay.proofs.field.digits.Statement.{statement}
-use Rattle.replay.proofs.field.digits.Tie as tie
+use Rattle.lines.proofs.field.digits.Statement.{statement}
+use Rattle.lines.proofs.field.digits.Tie as tie
 
 abbrev Inv-loop : tie.InvT-loop
 Inv-loop text n out₀ i₀ out i = (i ≤ n) × (length out ≡ length out₀)

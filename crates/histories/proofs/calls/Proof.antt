@@ -1,11 +1,11 @@
--- `replay::history::calls` is safe and ends: the store keeps its length, and each turn takes a field.
+-- `histories::calls` is safe and ends: the store keeps its length, and each turn takes a field.
 -- Assumes nothing.
 use borrow.Author.Needs.{needs}
 use mathlib.Core.Path.{_≡_}
 use Prim.Native.Nat.{_-_}
 use lib.ListN.{length}
-use Rattle.replay.proofs.history.calls.Statement.{statement}
-use Rattle.replay.proofs.history.calls.Tie as tie
+use Rattle.histories.proofs.calls.Statement.{statement}
+use Rattle.histories.proofs.calls.Tie as tie
 
 abbrev Inv-loop : tie.InvT-loop
 Inv-loop line space₀ state₀ n i₀ space state i = 5000 ≡ length space

@@ -71,6 +71,11 @@ pub fn fields(line: &[u8]) -> usize {
     n
 }
 
+// The last field, which has the answer.
+pub fn last(line: &[u8]) -> &[u8] {
+    field(line, std::num::wrapping_sub_usize(fields(line), 1))
+}
+
 // A number with one more digit behind it.
 fn with_digit(v: u64, c: u8) -> Number {
     if c < b'0' || b'9' < c {
@@ -180,4 +185,88 @@ fn digits(text: &[u8], n: usize, out: &mut [u8]) -> bool
         i += 1;
     }
     true
+}
+
+// Reads a line of numbers, a few bytes where `few` has room for any, bytes and an answer: fills `v` and `few`, and puts the
+// bytes at the start of `out`. Not good where the line is another.
+pub fn inputs(line: &[u8], v: &mut [u64], few: &mut [u8], out: &mut [u8]) -> Bytes
+    ensures { λ r. ⌜ r .n ≤ length (now (out .exit)) ⌝ }
+{
+    let n = v.len();
+    if few.len() == 0 {
+        if !numbers(line, n + 3, v) {
+            return Bytes { good: false, n: 0 };
+        }
+        return hex(field(line, n + 1), out);
+    }
+    if !numbers(line, n + 4, v) {
+        return Bytes { good: false, n: 0 };
+    }
+    if !all_hex(field(line, n + 1), few) {
+        return Bytes { good: false, n: 0 };
+    }
+    hex(field(line, n + 2), out)
+}
+
+// V AT W N of a line; not good where a width is more than a word's.
+pub struct Words {
+    pub good: bool,
+    pub v: u64,
+    pub at: usize,
+    pub w: u64,
+    pub n: usize,
+}
+
+// Reads the numbers of a push or bfi line.
+pub fn two_words(line: &[u8]) -> Words
+    ensures { λ r. ⌜ (r .at ≤ 64) × (r .n ≤ 64) ⌝ }
+{
+    let bad = Words {
+        good: false,
+        v: 0,
+        at: 0,
+        w: 0,
+        n: 0,
+    };
+    let mut v = [0u64; 4];
+    if !numbers(line, 6, &mut v) {
+        return bad;
+    }
+    if 64 < v[1] {
+        return bad;
+    }
+    if 64 < v[3] {
+        return bad;
+    }
+    Words {
+        good: true,
+        v: v[0],
+        at: v[1] as usize,
+        w: v[2],
+        n: v[3] as usize,
+    }
+}
+
+// What goes into a call KIND:N:HEX of a history; not good where it is another text.
+pub struct Given {
+    pub good: bool,
+    pub n: u64,
+    pub size: usize,
+}
+
+// Reads a call of a history, and puts its bytes at the start of `out`.
+pub fn call_of(text: &[u8], out: &mut [u8]) -> Given
+    ensures { λ r. ⌜ r .size ≤ length (now (out .exit)) ⌝ }
+{
+    let read = hex(piece(text, 2, b':'), out);
+    let size = read.n;
+    let good = read.good;
+    let Number::Is(n) = decimal(piece(text, 1, b':')) else {
+        return Given {
+            good: false,
+            n: 0,
+            size,
+        };
+    };
+    Given { good, n, size }
 }
