@@ -65,7 +65,7 @@ impl<'a> Reader<'a> {
     }
 }
 
-// How many bits a slice has. Who calls it with plain parameters needs no walk.
+// How many bits a slice has. This function and the two below take no reader: who calls them needs no walk by hand.
 pub fn bits_in(s: &[u8]) -> usize
     requires { ⌜ length (now s) < 2 ^ 60 ⌝ }
     ensures { λ r. ⌜ r ≡ length (now (s .entry)) * 8 ⌝ }
@@ -79,4 +79,13 @@ pub fn take_at(s: &[u8], at: usize, n: usize) -> Taken
     ensures { λ r. ⌜ r ≡ taken (at + n) (takeBits n (drop at (unpack (now (s .entry))))) ⌝ }
 {
     Reader { bytes: s, at }.take(n)
+}
+
+// The text from a position on, without the pad, written from a place of the output on.
+pub fn text7_at(s: &[u8], at: usize, out: &mut [u8], to: usize) -> Got
+    requires { ⌜ (length (now s) < 2 ^ 60) × (to < 2 ^ 61) ⌝ }
+    ensures { λ r. ⌜ (r ≡ text7Next to (text7Of (unpack (now (s .entry))) at))
+        × (now (out .exit) ≡ text7Left (now (out .entry)) to (text7Of (unpack (now (s .entry))) at)) ⌝ }
+{
+    Reader { bytes: s, at }.text7(out, to)
 }
