@@ -145,7 +145,7 @@ fn read_alias(s: &[u8], at: usize, l: usize, n: usize, out: &mut [u8], to: usize
     requires { ⌜ (length (now s) < 5000) × (l ≤ 7) × (n ≤ 8) × (n ≤ length (now s) * 8) × (to < 2 ^ 10) ⌝ }
     ensures { λ r. ⌜ ReadsTo (digiBytes l (unpack (now (s .entry))) n 0) (unpack (now (s .entry))) (readAlias l n (drop at (unpack (now (s .entry))))) (now (out .entry)) to (now (out .exit)) r ⌝ }
 {
-    let Taken::Bits(i, p) = bits::read::take(s, at, 3) else {
+    let Taken::Bits(i, p) = bits::reader::take_at(s, at, 3) else {
         return Read::Nothing;
     };
     if i == 0 {
@@ -215,7 +215,7 @@ fn read_type(s: &[u8], at: usize, ap: bool) -> Typed
     requires { ⌜ length (now s) < 5000 ⌝ }
     ensures { λ r. ⌜ Types (unpack (now (s .entry))) (readType ap (drop at (unpack (now (s .entry))))) r ⌝ }
 {
-    let Taken::Bits(v, p) = bits::read::take(s, at, type_width(ap)) else {
+    let Taken::Bits(v, p) = bits::reader::take_at(s, at, type_width(ap)) else {
         return Typed::Nothing;
     };
     from_code(v, p)
@@ -226,7 +226,7 @@ fn read_head(s: &[u8], l: usize, n: usize, out: &mut [u8]) -> Head
     requires { ⌜ (length (now s) < 5000) × (2 ≤ l) × (l ≤ 7) × (n ≤ 8) ⌝ }
     ensures { λ r. ⌜ Heads l (unpack (now (s .entry))) (readHead l n (unpack (now (s .entry)))) (now (out .entry)) (now (out .exit)) r ⌝ }
 {
-    if s.len() * 8 < n {
+    if bits::reader::bits_in(s) < n {
         return Head::Nothing;
     }
     let ap = is_ap(s, n, l);
@@ -286,7 +286,7 @@ fn read_info(s: &[u8], at: usize, l: usize, typ: AprsType, out: &mut [u8], to: u
     ensures { λ r. ⌜ Reads (readInfo l (typeNumber typ) (unpack (now (s .entry))) (drop at (unpack (now (s .entry))))) (now (out .entry)) to (now (out .exit)) r ⌝ }
 {
     match typ {
-        AprsType::Text => bits::read::text7(s, at, out, to),
+        AprsType::Text => bits::reader::text7_at(s, at, out, to),
         AprsType::Binary => Got::Next(read_bytes(s, at, out, to)),
         AprsType::ThirdParty => third_decode(s, at, l, out, to),
         _ => aprs_decode(typ, s, at, l, out, to),

@@ -1,5 +1,6 @@
 // Bits, most significant first, in packed bytes, and the number at the front of a text: bits.rs of the source.
 pub mod read;
+pub mod reader;
 pub mod write;
 
 ghost use mathlib.Core.Path.{_≡_};

@@ -27,7 +27,7 @@ pub(crate) fn generic_decode(message: &[u8], out: &mut [u8]) -> usize
     if message[0] % 2 == 0 {
         return bits::write::copy(out, 0, &message[1..]);
     }
-    let Got::Next(n) = bits::read::text7(&message[1..], 0, out, 0) else {
+    let Got::Next(n) = bits::reader::text7_at(&message[1..], 0, out, 0) else {
         return 0;
     };
     n

@@ -11,8 +11,8 @@ use borrow.Author.Needs.{needs}
 use Rattle.ax25.proofs.decode.read_alias.Statement.{statement}
 use Rattle.ax25.proofs.decode.read_alias.Tie as tie
 
-take-requires : tie.Need-take-requires
-take-requires c κs = search needs
+take-at-requires : tie.Need-take-at-requires
+take-at-requires c κs = search needs
 
 enum-known-i : tie.Need-enum-known-i
 enum-known-i c = search needs
@@ -24,19 +24,19 @@ returns : tie.Need-returns
 returns c =
     let a = c .before .before .before .before .before .args in
     let b = unpack (now (a .s)) in
-    alias-short (a .l) (a .n) (drop (a .at) b) (told-short b (a .at) 3 (sym (c .before .before .take .ensures) ∙ c .enum-told .given .1))
+    alias-short (a .l) (a .n) (drop (a .at) b) (told-short b (a .at) 3 (sym (c .before .before .take-at .ensures) ∙ c .enum-told .given .1))
 
 returns-2 : tie.Need-returns-2
 returns-2 c =
     let a = c .before .before .before .before .before .before .before .args in
     let b = unpack (now (a .s)) in
-    alias-zero (a .l) (a .n) (drop (a .at) b) _ _ (told-bits b (a .at) 3 _ _ (sym (c .before .before .before .before .take .ensures) ∙ c .before .before .i .given .1)) (c .if1 .taken)
+    alias-zero (a .l) (a .n) (drop (a .at) b) _ _ (told-bits b (a .at) 3 _ _ (sym (c .before .before .before .before .take-at .ensures) ∙ c .before .before .i .given .1)) (c .if1 .taken)
 
 returns-3 : tie.Need-returns-3
 returns-3 c =
     let a = c .before .before .before .before .before .before .before .before .args in
     let b = unpack (now (a .s)) in
-    alias-past (a .l) (a .n) (drop (a .at) b) _ _ (told-bits b (a .at) 3 _ _ (sym (c .before .before .before .before .before .take .ensures) ∙ c .before .before .before .i .given .1)) (c .if2 .taken)
+    alias-past (a .l) (a .n) (drop (a .at) b) _ _ (told-bits b (a .at) 3 _ _ (sym (c .before .before .before .before .before .take-at .ensures) ∙ c .before .before .before .i .given .1)) (c .if2 .taken)
 
 sub-put-alias : tie.Need-sub-put-alias
 sub-put-alias c = search needs
@@ -51,13 +51,13 @@ returns-4 : tie.Need-returns-4
 returns-4 c =
     let a = c .before .before .before .before .before .before .before .before .before .before .before .before .args in
     let b = unpack (now (a .s)) in
-    alias-read (a .l) (a .n) (drop (a .at) b) b _ _ (told-bits b (a .at) 3 _ _ (sym (c .before .before .before .before .before .before .before .before .before .take .ensures) ∙ c .before .before .before .before .before .before .before .i .given .1)) (c .before .before .before .before .before .if1 .left) (omega (arith, c .before .before .before .before .if2 .left)) _ _ (a .to) _ (c .before .before .put-alias .ensures)
+    alias-read (a .l) (a .n) (drop (a .at) b) b _ _ (told-bits b (a .at) 3 _ _ (sym (c .before .before .before .before .before .before .before .before .before .take-at .ensures) ∙ c .before .before .before .before .before .before .before .i .given .1)) (c .before .before .before .before .before .if1 .left) (omega (arith, c .before .before .before .before .if2 .left)) _ _ (a .to) _ (c .before .before .put-alias .ensures)
 
 pub read-alias-spec : {M : Type 1} → statement M
 read-alias-spec =
     tie.close
     (tie.spec
-    take-requires
+    take-at-requires
     enum-known-i
     enum-told
     returns

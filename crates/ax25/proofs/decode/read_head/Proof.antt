@@ -15,13 +15,13 @@ use borrow.Author.Needs.{needs}
 use Rattle.ax25.proofs.decode.read_head.Statement.{statement}
 use Rattle.ax25.proofs.decode.read_head.Tie as tie
 
-mul-if1 : tie.Need-mul-if1
-mul-if1 c = search needs
+bits-in-requires : tie.Need-bits-in-requires
+bits-in-requires c κs = search needs
 
 returns : tie.Need-returns
 returns c =
-    let a = c .before .before .before .args in
-    head-short (a .l) (a .n) (unpack (now (a .s))) (omega (arith, c .if1 .taken, length-unpack (now (a .s))))
+    let a = c .before .before .before .before .args in
+    head-short (a .l) (a .n) (unpack (now (a .s))) (omega (arith, c .if1 .taken, c .before .bits-in .ensures, length-unpack (now (a .s))))
 
 is-ap-requires : tie.Need-is-ap-requires
 is-ap-requires c κs = search needs
@@ -40,20 +40,20 @@ same-length c = search needs
 
 returns-2 : tie.Need-returns-2
 returns-2 c =
-    let a = c .before .before .before .before .before .before .before .before .before .before .args in
+    let a = c .before .before .before .before .before .before .before .before .before .before .before .args in
     let b = unpack (now (a .s)) in
-    let room : a .n ≤ length b = omega (arith, c .before .before .before .before .before .before .before .if1 .left, length-unpack (now (a .s))) in
+    let room : a .n ≤ length b = omega (arith, c .before .before .before .before .before .before .before .if1 .left, c .before .before .before .before .before .before .before .before .bits-in .ensures, length-unpack (now (a .s))) in
     head-ends (a .l) (a .n) b room
     (untaken (endsBytes (a .l) (eqb (a .n) 0)) b (readEnds (a .l) (drop (a .n) b)) _ 0 _ _ (c .before .before .before .before .read-ends .ensures) (c .enum-told .given .1))
 
 read-digis-requires : tie.Need-read-digis-requires
 read-digis-requires c κs =
-    let start = c .before .before .before .before .before .before .before .before .before .before .before .before in
+    let start = c .before .before .before .before .before .before .before .before .before .before .before .before .before in
     let pre = start .pre in
     let a = start .args in
     let b = unpack (now (a .s)) in
     let t = took (endsBytes (a .l) (eqb (a .n) 0)) b (readEnds (a .l) (drop (a .n) b)) _ 0 _ _ (c .before .before .before .before .before .before .read-ends .ensures) _ _ (c .before .before .p .given .1) in
-    (pre .0, pre .1, pre .2, pre .3, omega (arith, c .before .before .before .before .before .before .before .before .before .if1 .left), omega (arith, ends-place (a .l) (eqb (a .n) 0) t, pre .2))
+    (pre .0, pre .1, pre .2, pre .3, omega (arith, c .before .before .before .before .before .before .before .before .before .if1 .left, c .before .before .before .before .before .before .before .before .before .before .bits-in .ensures), omega (arith, ends-place (a .l) (eqb (a .n) 0) t, pre .2))
 
 enum-known-u : tie.Need-enum-known-u
 enum-known-u c = search needs
@@ -66,9 +66,9 @@ same-length-2 c = search needs
 
 returns-3 : tie.Need-returns-3
 returns-3 c =
-    let a = c .before .before .before .before .before .before .before .before .before .before .before .before .before .before .before .before .before .args in
+    let a = c .before .before .before .before .before .before .before .before .before .before .before .before .before .before .before .before .before .before .args in
     let b = unpack (now (a .s)) in
-    let room : a .n ≤ length b = omega (arith, c .before .before .before .before .before .before .before .before .before .before .before .before .before .before .if1 .left, length-unpack (now (a .s))) in
+    let room : a .n ≤ length b = omega (arith, c .before .before .before .before .before .before .before .before .before .before .before .before .before .before .if1 .left, c .before .before .before .before .before .before .before .before .before .before .before .before .before .before .before .bits-in .ensures, length-unpack (now (a .s))) in
     let p = c .before .before .before .before .before .before .before .p .given .0 .0 in
     let t = took (endsBytes (a .l) (eqb (a .n) 0)) b (readEnds (a .l) (drop (a .n) b)) _ 0 _ _ (c .before .before .before .before .before .before .before .before .before .before .before .read-ends .ensures) _ _ (c .before .before .before .before .before .before .before .p .given .1) in
     let y = c .before .before .before .before .before .before .before .before .before .before .before .before .before .is-ap in
@@ -89,9 +89,9 @@ same-length-3 c = search needs
 
 returns-4 : tie.Need-returns-4
 returns-4 c =
-    let a = c .before .before .before .before .before .before .before .before .before .before .before .before .before .before .before .before .before .before .before .before .before .args in
+    let a = c .before .before .before .before .before .before .before .before .before .before .before .before .before .before .before .before .before .before .before .before .before .before .args in
     let b = unpack (now (a .s)) in
-    let room : a .n ≤ length b = omega (arith, c .before .before .before .before .before .before .before .before .before .before .before .before .before .before .before .before .before .before .if1 .left, length-unpack (now (a .s))) in
+    let room : a .n ≤ length b = omega (arith, c .before .before .before .before .before .before .before .before .before .before .before .before .before .before .before .before .before .before .if1 .left, c .before .before .before .before .before .before .before .before .before .before .before .before .before .before .before .before .before .before .before .bits-in .ensures, length-unpack (now (a .s))) in
     let p = c .before .before .before .before .before .before .before .before .before .before .before .p .given .0 .0 in
     let u = c .before .before .before .before .u .given .0 .0 in
     let t = took (endsBytes (a .l) (eqb (a .n) 0)) b (readEnds (a .l) (drop (a .n) b)) _ 0 _ _ (c .before .before .before .before .before .before .before .before .before .before .before .before .before .before .before .read-ends .ensures) _ _ (c .before .before .before .before .before .before .before .before .before .before .before .p .given .1) in
@@ -105,22 +105,22 @@ same-length-4 c = search needs
 
 returns-5 : tie.Need-returns-5
 returns-5 c =
-    let a = c .before .before .before .before .before .before .before .before .before .before .before .before .before .before .before .before .before .before .before .before .before .before .args in
+    let a = c .before .before .before .before .before .before .before .before .before .before .before .before .before .before .before .before .before .before .before .before .before .before .before .args in
     let b = unpack (now (a .s)) in
-    let room : a .n ≤ length b = omega (arith, c .before .before .before .before .before .before .before .before .before .before .before .before .before .before .before .before .before .before .before .if1 .left, length-unpack (now (a .s))) in
+    let room : a .n ≤ length b = omega (arith, c .before .before .before .before .before .before .before .before .before .before .before .before .before .before .before .before .before .before .before .if1 .left, c .before .before .before .before .before .before .before .before .before .before .before .before .before .before .before .before .before .before .before .before .bits-in .ensures, length-unpack (now (a .s))) in
     let p = c .before .before .before .before .before .before .before .before .before .before .before .before .p .given .0 .0 in
     let u = c .before .before .before .before .before .u .given .0 .0 in
     let t = took (endsBytes (a .l) (eqb (a .n) 0)) b (readEnds (a .l) (drop (a .n) b)) _ 0 _ _ (c .before .before .before .before .before .before .before .before .before .before .before .before .before .before .before .before .read-ends .ensures) _ _ (c .before .before .before .before .before .before .before .before .before .before .before .before .p .given .1) in
     let y = c .before .before .before .before .before .before .before .before .before .before .before .before .before .before .before .before .before .before .is-ap in
     let d = took (digiBytes (a .l) b (a .n) 0) b (readDigis (a .l) (y .result) (a .n) (drop p b)) _ _ _ _ (c .before .before .before .before .before .before .before .before .before .read-digis .ensures) _ _ (c .before .before .before .before .before .u .given .1) in
     let k = typed b (readType (y .result) (drop u b)) (c .before .before .before .read-type .result) (c .before .before .before .read-type .ensures) _ _ (c .before .typ .given .1) in
-    head-some (a .l) (a .n) b room (t .value) (drop p b) (t .is) (y .result) (y .ensures) (d .value) (drop u b) (d .is) _ _ (k .0) (k .1) (c .before .before .before .before .before .before .before .before .before .before .before .before .before .before .before .before .before .before .before .before .before .before .pre .3) _ _ _ _ _ (t .wrote) (d .wrote)
+    head-some (a .l) (a .n) b room (t .value) (drop p b) (t .is) (y .result) (y .ensures) (d .value) (drop u b) (d .is) _ _ (k .0) (k .1) (c .before .before .before .before .before .before .before .before .before .before .before .before .before .before .before .before .before .before .before .before .before .before .before .pre .3) _ _ _ _ _ (t .wrote) (d .wrote)
 
 pub read-head-spec : {M : Type 1} → statement M
 read-head-spec =
     tie.close
     (tie.spec
-    mul-if1
+    bits-in-requires
     returns
     is-ap-requires
     read-ends-requires

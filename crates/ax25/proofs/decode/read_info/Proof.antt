@@ -15,8 +15,8 @@ use Rattle.ax25.proofs.decode.read_info.Tie as tie
 enum-told : tie.Need-enum-told
 enum-told c = search needs
 
-text7-requires : tie.Need-text7-requires
-text7-requires c κs = search needs
+text7-at-requires : tie.Need-text7-at-requires
+text7-at-requires c κs = search needs
 
 enum-told-2 : tie.Need-enum-told-2
 enum-told-2 c = search needs
@@ -42,7 +42,7 @@ returns c =
     let a = start .args in
     let b = unpack (now (a .s)) in
     let room : a .at ≤ length b = omega (arith, start .pre .1, length-unpack (now (a .s))) in
-    let t = c .before .before .text7 .ensures in
+    let t = c .before .before .text7-at .ensures in
     rw (info-text (a .l) b (a .at) (a .typ) (c .before .before .before .before .enum-told .given .1) room) (text7-reads _ _ _ _ _ (t .0) (t .1))
 
 same-length-2 : tie.Need-same-length-2
@@ -77,7 +77,7 @@ read-info-spec =
     tie.close
     (tie.spec
     enum-told
-    text7-requires
+    text7-at-requires
     enum-told-2
     read-bytes-requires
     enum-told-3

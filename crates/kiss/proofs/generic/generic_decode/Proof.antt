@@ -31,17 +31,17 @@ returns c =
     let a = then1 .before .before .before .before .args in
     bytes-back _ (now (a .message)) (then1 .if1 .taken) (c .before .before .copy .ensures)
 
-sub-text7 : tie.Need-sub-text7
-sub-text7 c = search needs
+sub-text7-at : tie.Need-sub-text7-at
+sub-text7-at c = search needs
 
-part-text7-start : tie.Need-part-text7-start
-part-text7-start c = search needs
+part-text7-at-start : tie.Need-part-text7-at-start
+part-text7-at-start c = search needs
 
-part-text7-end : tie.Need-part-text7-end
-part-text7-end c = search needs
+part-text7-at-end : tie.Need-part-text7-at-end
+part-text7-at-end c = search needs
 
-text7-requires : tie.Need-text7-requires
-text7-requires c κs = search needs
+text7-at-requires : tie.Need-text7-at-requires
+text7-at-requires c κs = search needs
 
 enum-known-n : tie.Need-enum-known-n
 enum-known-n c = search needs
@@ -54,7 +54,7 @@ same-length-2 c = search needs
 
 returns-2 : tie.Need-returns-2
 returns-2 c =
-    let text = c .before .before .before .before .text7 in
+    let text = c .before .before .before .before .text7-at in
     let else1 = c .before .before .before .before .before .before .before in
     let a = else1 .before .before .before .before .args in
     nothing-back _ (now (a .message)) (else1 .if1 .left) (sym (text .ensures .0) ∙ c .enum-told .given .1) (text .ensures .1)
@@ -64,7 +64,7 @@ same-length-3 c = search needs
 
 returns-3 : tie.Need-returns-3
 returns-3 c =
-    let text = c .before .before .before .before .before .text7 in
+    let text = c .before .before .before .before .before .text7-at in
     let else1 = c .before .before .before .before .before .before .before .before in
     let a = else1 .before .before .before .before .args in
     text-back _ (now (a .message)) (else1 .if1 .left) (sym (text .ensures .0) ∙ c .before .n .given .1) (text .ensures .1)
@@ -80,10 +80,10 @@ generic-decode-spec =
     copy-requires
     same-length
     returns
-    sub-text7
-    part-text7-start
-    part-text7-end
-    text7-requires
+    sub-text7-at
+    part-text7-at-start
+    part-text7-at-end
+    text7-at-requires
     enum-known-n
     enum-told
     same-length-2

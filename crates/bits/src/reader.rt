@@ -1,0 +1,91 @@
+// A reader that borrows the message bytes and keeps a bit position: `Reader` of the source, over the functions of `read`.
+// The reader is passed by value: where the source moves the position, the answer has the next one.
+ghost use mathlib.Core.Path.{_≡_};
+ghost use Prim.Native.Nat.{_+_, _-_, _*_, _^_, _≤_, _<_};
+ghost use lib.ListN.{length, drop};
+ghost use Rattle.laws.specs.Bits.{unpack};
+ghost use Rattle.bits.specs.Read.{takeBits, takeText, taken};
+ghost use Rattle.bits.specs.Text7.{text7Of, text7Next, text7Left};
+use crate::read;
+use crate::read::Got;
+use crate::read::Taken;
+
+pub struct Reader<'a> {
+    pub bytes: &'a [u8],
+    pub at: usize,
+}
+
+impl<'a> Reader<'a> {
+    // A reader at the first bit.
+    pub fn new(bytes: &'a [u8]) -> Reader<'a>
+        ensures { λ r. ⌜ (r .bytes ≡ bytes .entry) × (r .at ≡ 0) ⌝ }
+    {
+        Reader { bytes, at: 0 }
+    }
+
+    // How many bits there are from the position on.
+    pub fn remaining(self) -> usize
+        requires { ⌜ length (now (self .bytes)) < 2 ^ 60 ⌝ }
+        ensures { λ r. ⌜ r ≡ length (now (self .entry .bytes)) * 8 - self .entry .at ⌝ }
+    {
+        read::remaining(self.bytes, self.at)
+    }
+
+    // The next bit, 0 or 1.
+    pub fn bit(self) -> Taken
+        requires { ⌜ length (now (self .bytes)) < 2 ^ 60 ⌝ }
+        ensures { λ r. ⌜ r ≡ taken (self .entry .at + 1) (takeBits 1 (drop (self .entry .at) (unpack (now (self .entry .bytes))))) ⌝ }
+    {
+        read::bit(self.bytes, self.at)
+    }
+
+    // The next n bits, as a number.
+    pub fn take(self, n: usize) -> Taken
+        requires { ⌜ (n ≤ 64) × (length (now (self .bytes)) < 2 ^ 60) ⌝ }
+        ensures { λ r. ⌜ r ≡ taken (self .entry .at + n) (takeBits n (drop (self .entry .at) (unpack (now (self .entry .bytes))))) ⌝ }
+    {
+        read::take(self.bytes, self.at, n)
+    }
+
+    // The next n bits as text of 0 and 1, and the number that `vb_val` reads there.
+    pub fn text(self, n: usize) -> Taken
+        requires { ⌜ (n ≤ 16) × (length (now (self .bytes)) < 2 ^ 60) ⌝ }
+        ensures { λ r. ⌜ r ≡ taken (self .entry .at + n) (takeText n (drop (self .entry .at) (unpack (now (self .entry .bytes))))) ⌝ }
+    {
+        read::text(self.bytes, self.at, n)
+    }
+
+    // The text from the position on, without the pad, written from a place of the output on.
+    pub fn text7(self, out: &mut [u8], to: usize) -> Got
+        requires { ⌜ (length (now (self .bytes)) < 2 ^ 60) × (to < 2 ^ 61) ⌝ }
+        ensures { λ r. ⌜ (r ≡ text7Next to (text7Of (unpack (now (self .entry .bytes))) (self .entry .at)))
+            × (now (out .exit) ≡ text7Left (now (out .entry)) to (text7Of (unpack (now (self .entry .bytes))) (self .entry .at))) ⌝ }
+    {
+        read::text7(self.bytes, self.at, out, to)
+    }
+}
+
+// How many bits a slice has. This function and the two below take no reader: who calls them needs no walk by hand.
+pub fn bits_in(s: &[u8]) -> usize
+    requires { ⌜ length (now s) < 2 ^ 60 ⌝ }
+    ensures { λ r. ⌜ r ≡ length (now (s .entry)) * 8 ⌝ }
+{
+    Reader::new(s).remaining()
+}
+
+// The n bits from a position on, as a number.
+pub fn take_at(s: &[u8], at: usize, n: usize) -> Taken
+    requires { ⌜ (n ≤ 64) × (length (now s) < 2 ^ 60) ⌝ }
+    ensures { λ r. ⌜ r ≡ taken (at + n) (takeBits n (drop at (unpack (now (s .entry))))) ⌝ }
+{
+    Reader { bytes: s, at }.take(n)
+}
+
+// The text from a position on, without the pad, written from a place of the output on.
+pub fn text7_at(s: &[u8], at: usize, out: &mut [u8], to: usize) -> Got
+    requires { ⌜ (length (now s) < 2 ^ 60) × (to < 2 ^ 61) ⌝ }
+    ensures { λ r. ⌜ (r ≡ text7Next to (text7Of (unpack (now (s .entry))) at))
+        × (now (out .exit) ≡ text7Left (now (out .entry)) to (text7Of (unpack (now (s .entry))) at)) ⌝ }
+{
+    Reader { bytes: s, at }.text7(out, to)
+}
