@@ -1,13 +1,10 @@
-pub mod BodyLaws
 pub mod CoderLaws
 pub mod Examples
 pub mod FrameBack
 pub mod HeadBack
 pub mod HeadCode
-pub mod HeadLaws
 pub mod InfoLaws
 pub mod MessageCode
 pub mod PackLaws
 pub mod PlainLaws
-pub mod ReaderLaws
 pub mod SizeLaws

@@ -2,4 +2,3 @@ pub mod Codes
 pub mod Decode
 pub mod Encode
 pub mod Plain
-pub mod Put

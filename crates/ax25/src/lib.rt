@@ -1,3 +1,2 @@
-// A frame coded and decoded.
-pub mod decode;
+// A frame coded: `encode` of the source; and the definitions of both ways, with their laws.
 pub mod encode;

@@ -159,13 +159,13 @@ fn decode_frame(message: &[u8], command: u8, out: &mut [u8]) -> Decoded
     ensures { λ r. ⌜ (decodedOf r, now (out .exit)) ≡ decodeInto (orSeven command (readFrame (callLen command) (getD (now (message .entry)) 0 0) (unpack (drop 1 (now (message .entry)))))) (now (out .entry)) ⌝ }
 {
     let l = ax25_address::record::call_len(command);
-    let Got::Next(needed) = ax25::decode::decode(&message[1..], message[0], l, &mut out[..0]) else {
+    let Got::Next(needed) = ax25_decode::decode(&message[1..], message[0], l, &mut out[..0]) else {
         return Decoded::Refused(NOT_DECODED);
     };
     if out.len() < needed {
         return Decoded::Refused(OUTPUT);
     }
-    ax25::decode::decode(&message[1..], message[0], l, out);
+    ax25_decode::decode(&message[1..], message[0], l, out);
     Decoded::Bytes(command, needed)
 }
 

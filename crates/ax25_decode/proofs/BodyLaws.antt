@@ -1,0 +1,125 @@
+-- The ways through the readers of a frame's body, and of the whole frame.
+-- Assumes nothing.
+use mathlib.Core.Path.{_≡_, refl, sym, ap, subst, _∙_}
+use mathlib.Core.Logic.{inl, inr}
+use mathlib.Core.Bool.{Bool, false}
+use mathlib.Core.List.{List, [], _∷_, _++_, append-assoc}
+use mathlib.Core.Option.{Option, none, some}
+use Prim.Native.Nat.{ℕ, zero, suc, _+_, _-_, _*_, _/_, _≤_}
+use native.Mathlib.Omega.{arith}
+use denote.Enum.Declared.{tagOf}
+use types.Run.{OneOf}
+use lib.ListN.{length, take, drop, length-drop}
+use lib.Seq.{drop-drop}
+use Rattle.laws.specs.Bits.{odd, fit, packN, valueOf}
+use Rattle.laws.specs.Pick.{pick, _>>=_}
+use Rattle.laws.specs.Wrote.{Wrote}
+use Rattle.laws.proofs.ByteLaws.{fit-take}
+use Rattle.laws.proofs.WroteLaws.{wrote-then}
+use Rattle.bits.specs.Text7.{text7Of, text7Next, text7Left}
+use Rattle.bits.specs.declared.read.Got.{Got}
+use Rattle.ax25_address.specs.Kind.{typeNumber}
+use Rattle.ax25_address.specs.declared.classify.AprsType.{AprsType}
+use Rattle.ax25_address.specs.declared.classify.AprsType.the-variants as kind
+use Rattle.ax25_address.proofs.classify.AprsType.{the-type}
+use Rattle.ax25_aprs.specs.Body.{readBody}
+use Rattle.ax25_aprs.specs.Put.{Reads}
+use Rattle.ax25_aprs.specs.Third.{readThird}
+use Rattle.ax25_aprs.proofs.PartLaws.{reads-then}
+use Rattle.ax25.specs.Decode as decode
+use Rattle.ax25.specs.Decode.{digiCount, bytesIn, addresses, readHead, readInfo, readFrame}
+use Rattle.ax25_decode.specs.Put.{HeadRead, Heads}
+use Rattle.ax25_decode.specs.declared.Head.{Head}
+use Rattle.ax25_decode.specs.declared.Head.the-variants.{Is, Nothing}
+use Rattle.ax25_decode.proofs.HeadLaws.{addresses-size}
+
+-- ---- whole bytes
+
+-- one byte more
+pub bytes-suc : (k : ℕ) (b : List Bool) → suc k * 8 ≤ length b → packN (suc k) b ≡ packN k b ++ (valueOf (take 8 (drop (k * 8) b)) ∷ [])
+unfolding packN
+bytes-suc zero b h = ap (λ (x : List Bool). valueOf x ∷ []) (fit-take 8 b (omega (arith, h)))
+bytes-suc (suc k) b h =
+    let e : 8 + k * 8 ≡ suc k * 8 = omega arith in
+    ap (λ (t : List ℕ). valueOf (fit 8 b) ∷ t) (bytes-suc k (drop 8 b) (omega (arith, h, length-drop 8 b)) ∙ ap (λ (d : List Bool). packN k (drop 8 b) ++ (valueOf (take 8 d) ∷ [])) (drop-drop (k * 8) 8 b ∙ ap (λ (n : ℕ). drop n b) e))
+
+pub bytes-in : (i : ℕ) (b : List Bool) → i ≡ length b / 8 → packN i b ≡ bytesIn b
+unfolding bytesIn
+bytes-in i b e = ap (λ (n : ℕ). packN n b) e
+
+-- ---- the body by its type
+
+-- the places of the variants that the last arm takes
+inside : (n : ℕ) → OneOf (2 ∷ 3 ∷ 4 ∷ []) n → (2 ≤ n) × (n ≤ 4)
+inside n (inl e) = (omega (arith, e), omega (arith, e))
+inside n (inr (inl e)) = (omega (arith, e), omega (arith, e))
+inside n (inr (inr e)) = (omega (arith, e), omega (arith, e))
+
+module _ (l : ℕ) (b : List Bool) (p : ℕ) where
+  pub info-text : (t : AprsType) → t ≡ kind.Text → p ≤ length b → readInfo l (typeNumber t) b (drop p b) ≡ text7Of b p
+  unfolding readInfo pick
+  info-text t e h =
+      let z : length b - length (drop p b) ≡ p = omega (arith, h, length-drop p b) in
+      rw e (ap (text7Of b) z)
+
+  pub info-binary : (t : AprsType) → t ≡ kind.Binary → readInfo l (typeNumber t) b (drop p b) ≡ some (bytesIn (drop p b))
+  unfolding readInfo pick
+  info-binary t e = rw e
+
+  pub info-third : (t : AprsType) → t ≡ kind.ThirdParty → readInfo l (typeNumber t) b (drop p b) ≡ readThird l (drop p b)
+  unfolding readInfo pick
+  info-third t e = rw e
+
+  pub info-body : (t : AprsType) → OneOf (2 ∷ 3 ∷ 4 ∷ []) (tagOf the-type t) → readInfo l (typeNumber t) b (drop p b) ≡ readBody (typeNumber t) l (drop p b)
+  unfolding readInfo pick
+  info-body kind.Text h = absurd (omega (arith, inside 0 h .0))
+  info-body kind.Binary h = absurd (omega (arith, inside 1 h .0))
+  info-body kind.Position h = refl
+  info-body kind.TimestampedPosition h = refl
+  info-body kind.Message h = refl
+  info-body kind.ThirdParty h = absurd (omega (arith, inside 5 h .1))
+
+pub text7-reads : (o : Option (List ℕ)) (out : List ℕ) (to : ℕ) (e : List ℕ) (r : Got) → r ≡ text7Next to o → e ≡ text7Left out to o → Reads o out to e r
+unfolding text7Next text7Left
+text7-reads none out to e r u v = u
+text7-reads (some t) out to e r u v = (u, record { stored = v; next-is = refl })
+
+-- ---- the frame
+
+module _ (l : ℕ) (b : List Bool) (o : Option (decode.Head × List Bool)) (out e : List ℕ) (r : Head) (h : Heads l b o out e r) where
+  pub headed : (p q : ℕ) (t : AprsType) → r ≡ Is p q t → HeadRead l b o out e p q t
+  headed p q t u = subst (λ (x : Head). Heads l b o out e x) u h
+
+  pub unheaded : r ≡ Nothing → o ≡ none
+  unheaded u = subst (λ (x : Head). Heads l b o out e x) u h
+
+module _ (l header n : ℕ) (b : List Bool) (c : n ≡ digiCount header) where
+  pub frame-none : readHead l n b ≡ none → readFrame l header b ≡ none
+  unfolding readFrame
+  frame-none u = rw (← c, u)
+
+  module _ (out mid : List ℕ) (p q : ℕ) (t : AprsType) (h : HeadRead l b (readHead l n b) out mid p q t) where
+    -- at most ten addresses
+    pub head-place : l ≤ 7 → q ≤ 80
+    head-place k =
+        let g = h .head in
+        omega (arith, h .wrote .next-is, h .few, addresses-size l k (g .dest ∷ g .src ∷ g .digis) (false ∷ false ∷ g .heard))
+
+    fields : List ℕ
+    fields = addresses l (h .head .dest ∷ h .head .src ∷ h .head .digis) (false ∷ false ∷ h .head .heard)
+
+    frame-is : (u : List ℕ) → u ≡ pick (odd (header / 64)) (0x03 ∷ 0xF0 ∷ []) [] → readFrame l header b ≡ (readInfo l (typeNumber t) b (drop p b) >>= (λ i. some ((fields ++ u) ++ i)))
+    unfolding readFrame fields
+    frame-is u eu = rw (← c, h .is, h .kind, ← eu) (together u (readInfo l (typeNumber t) b (drop p b)))
+      where
+        together : (u : List ℕ) (o : Option (List ℕ)) → (o >>= (λ i. some (fields ++ (u ++ i)))) ≡ (o >>= (λ i. some ((fields ++ u) ++ i)))
+        together u none = refl
+        together u (some i) = ap some (sym (append-assoc fields u i))
+
+    pub frame-some : (e : List ℕ) (v : ℕ) → Wrote mid q (pick (odd (header / 64)) (0x03 ∷ 0xF0 ∷ []) []) e v → (d : List ℕ) (r : Got)
+        → Reads (readInfo l (typeNumber t) b (drop p b)) e v d r → Reads (readFrame l header b) out 0 d r
+    unfolding fields
+    frame-some e v w d r k =
+        let u : List ℕ = pick (odd (header / 64)) (0x03 ∷ 0xF0 ∷ []) [] in
+        subst (λ (x : Option (List ℕ)). Reads x out 0 d r) (sym (frame-is u refl))
+        (reads-then (wrote-then (h .wrote) w) (readInfo l (typeNumber t) b (drop p b)) d r k)

@@ -1,0 +1,3 @@
+pub mod BodyLaws
+pub mod HeadLaws
+pub mod ReaderLaws
