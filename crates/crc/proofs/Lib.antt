@@ -1,1 +1,3 @@
+pub mod LinearLaws
+pub mod TableLaws
 pub mod Values

@@ -1,37 +1,77 @@
-// CRC-16/GENIBUS.
-ghost use mathlib.Core.Path.{_≡_};
-ghost use Rattle.crc.specs.Crc.{crcBit, crcByte, crcOf, crcBits};
+// CRC-16/GENIBUS, eight bytes a step. The definition goes bit by bit.
+mod table;
 
-// One step of the division.
-fn crc_bit(c: u16) -> u16
-    ensures { λ r. ⌜ r ≡ crcBit c ⌝ }
+ghost use mathlib.Core.Path.{_≡_};
+ghost use Prim.Native.Nat.{_+_, _*_, _/_, _%_, _≤_, _<_};
+ghost use lib.Bits.{bitXor};
+ghost use lib.ListN.{length, getD, take, drop};
+ghost use Rattle.crc.specs.Crc.{start, crcByte, crcFrom, crcOf, crcBits};
+ghost use Rattle.crc.specs.Pair.{pairOf};
+use crate::table::entry;
+
+// A byte of data as an index.
+fn wide(x: u8) -> usize
+    ensures { λ r. ⌜ (r ≡ x) × (r < 256) ⌝ }
 {
-    if 0x8000 <= c {
-        ((c - 0x8000) * 2) ^ 0x1021
-    } else {
-        c * 2
-    }
+    x as usize
 }
 
 // One byte more.
 fn crc_byte(c: u16, b: u8) -> u16
     ensures { λ r. ⌜ r ≡ crcByte c b ⌝ }
 {
-    let mut x = c ^ ((b as u16) * 256);
+    let high = c as usize / 256;
+    ((c % 256) * 256) ^ entry(0, high ^ wide(b))
+}
+
+// Two bytes at a place, with k bytes of zeros behind them.
+fn crc_pair(k: usize, data: &[u8], i: usize) -> u16
+    requires { ⌜ (k < 7) × (i + 2 ≤ length (now «data»)) ⌝ }
+    ensures { λ r. ⌜ r ≡ pairOf k (getD (now («data» .entry)) i 0) (getD (now («data» .entry)) (i + 1) 0) ⌝ }
+    ensures { λ _. ⌜ (getD (now («data» .entry)) i 0 < 256) × (getD (now («data» .entry)) (i + 1) 0 < 256) ⌝ }
+{
+    entry(k + 1, wide(data[i])) ^ entry(k, wide(data[i + 1]))
+}
+
+// Two bytes at a place, joined with what came before them, with six bytes of zeros behind.
+fn crc_first(c: u16, data: &[u8], i: usize) -> u16
+    requires { ⌜ i + 2 ≤ length (now «data») ⌝ }
+    ensures { λ r. ⌜ r ≡ pairOf 6 (bitXor (c / 256) (getD (now («data» .entry)) i 0)) (bitXor (c % 256) (getD (now («data» .entry)) (i + 1) 0)) ⌝ }
+    ensures { λ _. ⌜ (getD (now («data» .entry)) i 0 < 256) × (getD (now («data» .entry)) (i + 1) 0 < 256) ⌝ }
+{
+    let high = c as usize / 256;
+    let low = c as usize % 256;
+    entry(7, high ^ wide(data[i])) ^ entry(6, low ^ wide(data[i + 1]))
+}
+
+// Eight bytes more, from a place on.
+fn crc_eight(c: u16, data: &[u8], i: usize) -> u16
+    requires { ⌜ i + 8 ≤ length (now «data») ⌝ }
+    ensures { λ r. ⌜ r ≡ crcFrom c (take 8 (drop i (now («data» .entry)))) ⌝ }
+{
+    let four = crc_first(c, data, i) ^ crc_pair(4, data, i + 2);
+    four ^ crc_pair(2, data, i + 4) ^ crc_pair(0, data, i + 6)
+}
+
+// All whole groups of eight bytes.
+fn crc_eights(data: &[u8]) -> u16
+    ensures { λ r. ⌜ r ≡ crcFrom start (take (length (now («data» .entry)) / 8 * 8) (now («data» .entry))) ⌝ }
+{
+    let mut c: u16 = 0xFFFF;
     let mut i: usize = 0;
-    while i < 8 {
-        x = crc_bit(x);
-        i += 1;
+    while 8 <= data.len() - i {
+        c = crc_eight(c, data, i);
+        i += 8;
     }
-    x
+    c
 }
 
 // The CRC of any bytes.
 pub fn crc16_genibus(data: &[u8]) -> u16
     ensures { λ r. ⌜ r ≡ crcOf (now («data» .entry)) ⌝ }
 {
-    let mut c: u16 = 0xFFFF;
-    let mut i: usize = 0;
+    let mut c = crc_eights(data);
+    let mut i = data.len() / 8 * 8;
     while i < data.len() {
         c = crc_byte(c, data[i]);
         i += 1;

@@ -1,36 +1,32 @@
--- `crc::crc16_genibus` meets its contract. What is left of the bytes, from c on, gives what all give from the start.
+-- `crc::crc16_genibus` meets its contract. The first i bytes are in; the loop takes what is left of the last group.
 -- Assumes nothing.
-use mathlib.Core.Path.{_≡_, refl, sym, ap, _∙_}
-use mathlib.Core.List.{List}
-use Prim.Native.Nat.{ℕ, _+_, _-_, _≤_, _<_}
+use mathlib.Core.Path.{_≡_, sym, ap, _∙_}
+use Prim.Native.Nat.{ℕ, _+_, _-_, _≤_}
 use native.Mathlib.Omega.{arith}
-use native.Mathlib.Numerals.{add-one}
 use borrow.Author.Needs.{needs}
-use lib.ListN.{length, drop, getD, drop-of-length-le}
-use lib.Seq.{drop-cons}
+use lib.ListN.{length, take}
+use lib.Seq.{take-all}
 use lib.Bits.{bitXor}
-use Rattle.crc.specs.Crc.{start, final, crcByte, crcFrom, crcOf}
+use denote.Ref.{now}
+use Rattle.crc.specs.Crc.{start, final, crcFrom, crcOf}
+use Rattle.crc.proofs.LinearLaws.{from-one}
 use Rattle.crc.proofs.crc16_genibus.Statement.{statement}
 use Rattle.crc.proofs.crc16_genibus.Tie as tie
 
 abbrev Inv-loop : tie.InvT-loop
-Inv-loop «data» c₀ i₀ c i = (i ≤ length «data») × (crcFrom c (drop i «data») ≡ crcFrom start «data»)
+Inv-loop «data» c₀ i₀ c i = (i ≤ length «data») × (c ≡ crcFrom start (take i «data»))
 
 abbrev μ-loop : tie.MeasureT-loop
 μ-loop «data» c₀ i₀ c i = length «data» - i
 
--- one byte more
-more : (x i : ℕ) (l : List ℕ) → i < length l → crcFrom (crcByte x (getD l i 0)) (drop (i + 1) l) ≡ crcFrom x (drop i l)
-unfolding crcFrom
-more x i l h = rw (add-one, drop-cons l i 0)
+crc-eights-requires : tie.Need-crc-eights-requires Inv-loop μ-loop
+crc-eights-requires c κs = search needs
 
--- none left
-none : (x i : ℕ) (l : List ℕ) → length l ≤ i → crcFrom x (drop i l) ≡ x
-unfolding crcFrom
-none x i l h = ap (crcFrom x) (drop-of-length-le l h)
+mul-i : tie.Need-mul-i Inv-loop μ-loop
+mul-i c = omega arith
 
 loop-holds : tie.Need-loop-holds Inv-loop μ-loop
-loop-holds c = (omega arith, refl)
+loop-holds c = (omega arith, c .crc-eights .ensures)
 
 shared-slice-read-crc-byte : tie.Need-shared-slice-read-crc-byte Inv-loop μ-loop
 shared-slice-read-crc-byte c = omega arith
@@ -47,19 +43,16 @@ loop-less c = omega arith
 loop-again : tie.Need-loop-again Inv-loop μ-loop
 loop-again c =
     let at-loop = c .before .before .before in
-    let l = at-loop .before .before .args .«data» .now in (
-      omega arith,
-      ap (λ (x : ℕ). crcFrom x (drop (at-loop .loop .i + 1) l)) (c .crc-byte .ensures)
-          ∙ more (at-loop .loop .c) (at-loop .loop .i) l (omega arith)
-          ∙ at-loop .loop .inv .1,
-    )
+    let l = now (at-loop .before .before .before .args .«data») in
+    let i = at-loop .loop .i in
+    (omega arith, rw (c .crc-byte .ensures, at-loop .loop .inv .1) (sym (from-one start i l (omega arith))))
 
 returns : tie.Need-returns Inv-loop μ-loop
 unfolding crcOf
 returns c =
     let at-loop = c .before in
-    let a = at-loop .before .before .args in
-    ap (λ (x : ℕ). bitXor x final) (sym (none (at-loop .loop .c) (at-loop .loop .i) (a .«data» .now) (omega arith)) ∙ at-loop .loop .inv .1)
+    let l = now (at-loop .before .before .before .args .«data») in
+    ap (λ (x : ℕ). bitXor x final) (at-loop .loop .inv .1 ∙ ap (crcFrom start) (take-all (at-loop .loop .i) l (omega arith)))
 
 pub crc16-genibus-spec : {M : Type 1} → statement M
 crc16-genibus-spec =
@@ -67,6 +60,8 @@ crc16-genibus-spec =
     (tie.spec
     Inv-loop
     μ-loop
+    crc-eights-requires
+    mul-i
     loop-holds
     shared-slice-read-crc-byte
     crc-byte-requires
