@@ -15,7 +15,7 @@ use borrow.Author.Tests.{le-leb, lt-leb}
 use Rattle.laws.specs.Pick.{pick}
 use Rattle.laws.proofs.Cases.{by-le}
 use Rattle.crc.specs.Crc.{poly, crcBit, crcSteps, crcByte, crcFrom}
-use Rattle.crc.specs.Pair.{pairOf}
+use Rattle.crc.specs.Rows.{pairOf}
 
 -- ---- exclusive-or
 
@@ -142,6 +142,27 @@ small-steps (suc k) l h s =
 pub low-up : (l : ℕ) → l < 256 → crcSteps 8 l ≡ l * 256
 low-up l h = small-steps 8 l (omega arith) h
 
+-- the low four bits of a byte, four steps on
+four-up : (l : ℕ) → l < 16 → crcSteps 4 (l * 256) ≡ l * 4096
+unfolding crcSteps
+four-up l h =
+    let one : crcBit (l * 256) ≡ l * 512 = step-low (l * 256) (omega arith) ∙ omega arith in
+    let two : crcBit (l * 512) ≡ l * 1024 = step-low (l * 512) (omega arith) ∙ omega arith in
+    let three : crcBit (l * 1024) ≡ l * 2048 = step-low (l * 1024) (omega arith) ∙ omega arith in
+    let four : crcBit (l * 2048) ≡ l * 4096 = step-low (l * 2048) (omega arith) ∙ omega arith in
+    rw (one, two, three, four)
+
+-- a byte by its two halves
+pub nibbles : (k b : ℕ) → b < 256 → crcSteps ((k + 1) * 8) (b * 256) ≡ bitXor (crcSteps ((k * 2 + 1 + 1) * 4) (b / 16 * 4096)) (crcSteps ((k * 2 + 1) * 4) (b % 16 * 4096))
+nibbles k b h =
+    let e : b * 256 ≡ bitXor (b / 16 * 4096) (b % 16 * 256) = omega (arith, xor-shifted (b / 16) 12 (b % 16 * 256) (omega arith)) in
+    let f : (k + 1) * 8 ≡ (k * 2 + 1) * 4 + 4 = omega arith in
+    let g : (k * 2 + 1 + 1) * 4 ≡ (k + 1) * 8 = omega arith in
+    rw (e, g)
+    (steps-xor ((k + 1) * 8) (b / 16 * 4096) (b % 16 * 256) (omega arith) (omega arith)
+    ∙ ap (bitXor (crcSteps ((k + 1) * 8) (b / 16 * 4096)))
+    (ap (λ (n : ℕ). crcSteps n (b % 16 * 256)) f ∙ steps-add ((k * 2 + 1) * 4) 4 (b % 16 * 256) ∙ ap (crcSteps ((k * 2 + 1) * 4)) (four-up (b % 16) (omega arith))))
+
 -- ---- bytes
 
 -- a byte joins what the one before left
@@ -190,19 +211,6 @@ two-first c a b hc ha hb =
     ∙ ap (λ (x : ℕ). bitXor x (pairOf 0 a b)) (pair-halves h l (omega arith) (omega arith))
     ∙ pairs-join h l a b (omega arith) (omega arith) ha hb
 
--- one byte more, by the halves of what came before
-pub byte-halves : (c b : ℕ) → c < 0x10000 → b < 256 → crcByte c b ≡ bitXor (c % 256 * 256) (crcSteps 8 (bitXor (c / 256) b * 256))
-byte-halves c b hc hb =
-    let h = c / 256 in
-    let l = c % 256 in
-    let e : c ≡ bitXor (h * 256) l = omega (arith, xor-halves h l (omega arith)) in
-    byte-joins c b hc hb
-    ∙ ap (λ (x : ℕ). bitXor x (crcSteps 8 (b * 256)))
-    (ap (crcSteps 8) e ∙ steps-xor 8 (h * 256) l (omega arith) (omega arith) ∙ ap (bitXor (crcSteps 8 (h * 256))) (low-up l (omega arith)))
-    ∙ xor-swap (crcSteps 8 (h * 256)) (crcSteps 8 (b * 256)) (l * 256)
-    ∙ xor-comm (bitXor (crcSteps 8 (h * 256)) (crcSteps 8 (b * 256))) (l * 256)
-    ∙ ap (bitXor (l * 256)) (steps-join 8 h b (omega arith) hb)
-
 -- two bytes of zeros more behind a pair
 pub pair-on : (k a b : ℕ) → a < 256 → b < 256 → crcSteps 16 (pairOf k a b) ≡ pairOf (k + 2) a b
 unfolding pairOf
@@ -225,10 +233,15 @@ joined-on : (x y a b : ℕ) → x < 0x10000 → y < 0x10000 → a < 256 → b < 
 joined-on x y a b hx hy ha hb =
     two-join (bitXor x y) a b (xor-lt 16 x y hx hy) ha hb ∙ ap (λ (z : ℕ). bitXor z (pairOf 0 a b)) (steps-xor 16 x y hx hy)
 
+-- the first pair may come last
+first-last : (f a b d : ℕ) → bitXor (bitXor (bitXor f a) b) d ≡ bitXor (bitXor (bitXor a b) d) f
+first-last f a b d =
+    ap (λ (x : ℕ). bitXor x d) (xor-assoc f a b) ∙ xor-assoc f (bitXor a b) d ∙ xor-comm f (bitXor (bitXor a b) d)
+
 -- four pairs of bytes, the first joined with what came before
 pub fours : (c a b d e f g h i : ℕ) → c < 0x10000 → (a < 256) × (b < 256) → (d < 256) × (e < 256) → (f < 256) × (g < 256) → (h < 256) × (i < 256)
     → crcFrom c (a ∷ b ∷ d ∷ e ∷ f ∷ g ∷ h ∷ i ∷ [])
-    ≡ bitXor (bitXor (bitXor (pairOf 6 (bitXor (c / 256) a) (bitXor (c % 256) b)) (pairOf 4 d e)) (pairOf 2 f g)) (pairOf 0 h i)
+    ≡ bitXor (bitXor (bitXor (pairOf 4 d e) (pairOf 2 f g)) (pairOf 0 h i)) (pairOf 6 (bitXor (c / 256) a) (bitXor (c % 256) b))
 unfolding crcFrom
 fours c a b d e f g h i hc k1 k2 k3 k4 =
     let x = bitXor (c / 256) a in
@@ -252,6 +265,7 @@ fours c a b d e f g h i hc k1 k2 k3 k4 =
       pair-on 2 d e (k2 .0) (k2 .1),
       pair-on 0 f g (k3 .0) (k3 .1),
     )
+    (first-last (pairOf 6 x y) (pairOf 4 d e) (pairOf 2 f g) (pairOf 0 h i))
 
 -- eight bytes of a list
 pub eight : (l : List ℕ) (i : ℕ) → i + 8 ≤ length l

@@ -9,9 +9,6 @@ use Rattle.crc.proofs.crc_eight.Statement.{statement}
 use Rattle.crc.proofs.crc_eight.Tie as tie
 use Rattle.crc.proofs.crc_eight.Reads as reads
 
-crc-first-requires : tie.Need-crc-first-requires
-crc-first-requires c κs = search needs
-
 add-crc-pair : tie.Need-add-crc-pair
 add-crc-pair c = search needs
 
@@ -30,13 +27,16 @@ add-crc-pair-3 c = search needs
 crc-pair-requires-3 : tie.Need-crc-pair-requires-3
 crc-pair-requires-3 c κs = search needs
 
+crc-first-requires : tie.Need-crc-first-requires
+crc-first-requires c κs = search needs
+
 returns : tie.Need-returns
 returns c =
     let a = c .before .before .before .before .before .args in
-    let first = c .before .before .before .crc-first .ensures in
-    let second = c .before .before .crc-pair .ensures in
-    let third = c .before .crc-pair2 .ensures in
-    let last = c .crc-pair3 .ensures in
+    let second = c .before .before .before .crc-pair .ensures in
+    let third = c .before .before .crc-pair2 .ensures in
+    let last = c .before .crc-pair3 .ensures in
+    let first = c .crc-first .ensures in
     rw (first .0, second .0, third .0, last .0, eight (now (a .«data»)) (a .i) (omega arith))
     (sym (fours (a .c) _ _ _ _ _ _ _ _ (omega arith) (first .1) (second .1) (third .1) (last .1)))
 
@@ -44,11 +44,11 @@ pub crc-eight-spec : {M : Type 1} → statement M
 crc-eight-spec =
     tie.close
     (tie.spec
-    crc-first-requires
     add-crc-pair
     crc-pair-requires
     add-crc-pair-2
     crc-pair-requires-2
     add-crc-pair-3
     crc-pair-requires-3
+    crc-first-requires
     returns)

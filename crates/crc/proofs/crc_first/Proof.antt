@@ -4,7 +4,7 @@ use Prim.Native.Nat.{_/_, _%_, _<_}
 use native.Mathlib.Omega.{arith}
 use lib.Bits.{xor-lt}
 use borrow.Author.Needs.{needs}
-use Rattle.crc.specs.Pair.{pairOf}
+use Rattle.crc.specs.Rows.{pairOf}
 use Rattle.crc.proofs.crc_first.Statement.{statement}
 use Rattle.crc.proofs.crc_first.Tie as tie
 use Rattle.crc.proofs.crc_first.Reads as reads
@@ -18,7 +18,7 @@ wide-requires c κs = search needs
 entry-requires : tie.Need-entry-requires
 entry-requires c κs =
     let high : c .before .before .before .args .c / 256 < 256 = omega arith in
-    (omega arith, xor-lt 8 (c .before .before .before .args .c / 256) (c .wide .result) high (search needs))
+    (search needs, omega arith, xor-lt 8 (c .before .before .before .args .c / 256) (c .wide .result) high (search needs))
 
 add-wide : tie.Need-add-wide
 add-wide c = search needs
@@ -33,7 +33,7 @@ entry-requires-2 : tie.Need-entry-requires-2
 entry-requires-2 c κs =
     let a = c .before .before .before .before .before .before .args in
     let low : a .c % 256 < 256 = omega arith in
-    (omega arith, xor-lt 8 (a .c % 256) (c .wide2 .result) low (search needs))
+    (search needs, omega arith, xor-lt 8 (a .c % 256) (c .wide2 .result) low (search needs))
 
 returns : tie.Need-returns
 unfolding pairOf

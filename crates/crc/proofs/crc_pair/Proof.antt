@@ -4,7 +4,7 @@ use mathlib.Core.Path.{_≡_}
 use Prim.Native.Nat.{_+_, _*_}
 use native.Mathlib.Omega.{arith}
 use borrow.Author.Needs.{needs}
-use Rattle.crc.specs.Pair.{pairOf}
+use Rattle.crc.specs.Rows.{pairOf}
 use Rattle.crc.proofs.crc_pair.Statement.{statement}
 use Rattle.crc.proofs.crc_pair.Tie as tie
 use Rattle.crc.proofs.crc_pair.Reads as reads
@@ -19,7 +19,7 @@ wide-requires : tie.Need-wide-requires
 wide-requires c κs = search needs
 
 entry-requires : tie.Need-entry-requires
-entry-requires c κs = (omega arith, search needs)
+entry-requires c κs = (search needs, omega arith, search needs)
 
 add-wide : tie.Need-add-wide
 add-wide c = search needs
@@ -31,7 +31,7 @@ wide-requires-2 : tie.Need-wide-requires-2
 wide-requires-2 c κs = search needs
 
 entry-requires-2 : tie.Need-entry-requires-2
-entry-requires-2 c κs = (omega arith, search needs)
+entry-requires-2 c κs = (search needs, omega arith, search needs)
 
 returns : tie.Need-returns
 unfolding pairOf
