@@ -1,9 +1,10 @@
 // Writers. What lies past the end of the slice is not written, and the place goes on, so that a run over an empty slice measures.
 ghost use mathlib.Core.Path.{_≡_};
 ghost use mathlib.Core.List.{[], _∷_};
-ghost use Prim.Native.Nat.{_+_, _-_, _*_, _%_, _^_, _≤_, _<_};
-ghost use lib.ListN.{length, set};
-ghost use Rattle.laws.specs.Bits.{odd, bitsOf, unpack};
+ghost use Prim.Native.Nat.{_+_, _-_, _*_, _%_, _^_, _≤_, _<_, min};
+ghost use lib.ListN.{length};
+ghost use lib.Seq.{sets};
+ghost use Rattle.laws.specs.Bits.{bitsOf, unpack};
 ghost use Rattle.laws.specs.Pick.{pick};
 ghost use Rattle.laws.specs.Wrote.{Wrote};
 ghost use Rattle.bits.specs.Text7.{sevens, lastOr, text7Bits};
@@ -36,38 +37,40 @@ pub fn copy(out: &mut [u8], at: usize, src: &[u8]) -> usize
     next
 }
 
-// x with the last bit of b for its bit j, counted from the least significant.
-fn mixed(x: u8, j: usize, b: u64) -> u8
-    requires { ⌜ j < 8 ⌝ }
-    ensures { λ r. ⌜ bitsOf 8 r ≡ set (bitsOf 8 x) (7 - j) (odd b) ⌝ }
+fn least(a: usize, b: usize) -> usize
+    ensures { λ r. ⌜ r ≡ min a b ⌝ }
 {
-    let w = x as u64;
-    let p = 1u64 << j;
-    (((((w >> j) / 2 * 2 + b % 2) << j)) + w % p) as u8
+    if a < b { a } else { b }
 }
 
-// The last bit of b at a position.
-fn put_bit(out: &mut [u8], at: usize, b: u64)
-    ensures { λ _. ⌜ unpack (now (out .exit)) ≡ set (unpack (now (out .entry))) at (odd b) ⌝ }
+fn power(k: usize) -> u64
+    requires { ⌜ k < 64 ⌝ }
+    ensures { λ r. ⌜ r ≡ 2 ^ k ⌝ }
+{
+    1u64 << k
+}
+
+// x with the low m bits of v for those in front of its last r.
+fn spliced(x: u8, v: u64, m: usize, r: usize) -> u8
+    requires { ⌜ m + r ≤ 8 ⌝ }
+    ensures { λ y. ⌜ bitsOf 8 y ≡ sets (bitsOf 8 x) (8 - (m + r)) (bitsOf m v) ⌝ }
+{
+    let w = x as u64;
+    let p = power(m);
+    let q = power(r);
+    ((w / q / p * p + v % p) * q + w % q) as u8
+}
+
+// The low m bits of v into one byte.
+fn put_part(out: &mut [u8], at: usize, v: u64, m: usize)
+    requires { ⌜ at % 8 + m ≤ 8 ⌝ }
+    ensures { λ _. ⌜ unpack (now (out .exit)) ≡ sets (unpack (now (out .entry))) at (bitsOf m v) ⌝ }
 {
     let i = at / 8;
     if out.len() <= i {
         return;
     }
-    out[i] = mixed(out[i], 7 - at % 8, b);
-}
-
-// One bit. The next position.
-pub fn bit(out: &mut [u8], at: usize, b: bool) -> usize
-    requires { ⌜ at < 2 ^ 62 ⌝ }
-    ensures { λ r. ⌜ Wrote (unpack (now (out .entry))) at (b ∷ []) (unpack (now (out .exit))) r ⌝ }
-{
-    if b {
-        put_bit(out, at, 1);
-        return at + 1;
-    }
-    put_bit(out, at, 0);
-    at + 1
+    out[i] = spliced(out[i], v, m, 8 - (at % 8 + m));
 }
 
 // The low n bits of v. The next position.
@@ -76,12 +79,29 @@ pub fn push(out: &mut [u8], at: usize, v: u64, n: usize) -> usize
     ensures { λ r. ⌜ Wrote (unpack (now (out .entry))) at (bitsOf n v) (unpack (now (out .exit))) r ⌝ }
     ensures { λ r. ⌜ r ≡ at + n ⌝ }
 {
-    let mut i = 0;
-    while i < n {
-        put_bit(out, at + i, v >> (n - 1 - i));
-        i += 1;
+    if out.len() <= at / 8 {
+        return at + n;
     }
-    at + n
+    let mut pos = at;
+    let mut left = n;
+    while 0 < left {
+        let m = least(8 - pos % 8, left);
+        left -= m;
+        put_part(out, pos, v >> left, m);
+        pos += m;
+    }
+    pos
+}
+
+// One bit. The next position.
+pub fn bit(out: &mut [u8], at: usize, b: bool) -> usize
+    requires { ⌜ at < 2 ^ 62 ⌝ }
+    ensures { λ r. ⌜ Wrote (unpack (now (out .entry))) at (b ∷ []) (unpack (now (out .exit))) r ⌝ }
+{
+    if b {
+        return push(out, at, 1, 1);
+    }
+    push(out, at, 0, 1)
 }
 
 // How many bits a number has from its first 1 on.
