@@ -1,8 +1,8 @@
 // Writers. What lies past the end of the slice is not written, and the place goes on, so that a run over an empty slice measures.
 ghost use mathlib.Core.Path.{_≡_};
 ghost use mathlib.Core.List.{[], _∷_};
-ghost use Prim.Native.Nat.{_+_, _-_, _*_, _%_, _^_, _≤_, _<_, min};
-ghost use lib.ListN.{length};
+ghost use Prim.Native.Nat.{_+_, _-_, _*_, _/_, _%_, _^_, _≤_, _<_, min};
+ghost use lib.ListN.{length, take, drop};
 ghost use lib.Seq.{sets};
 ghost use Rattle.laws.specs.Bits.{bitsOf, unpack};
 ghost use Rattle.laws.specs.Pick.{pick};
@@ -37,12 +37,14 @@ pub fn copy(out: &mut [u8], at: usize, src: &[u8]) -> usize
     next
 }
 
+// The smaller of two numbers.
 fn least(a: usize, b: usize) -> usize
     ensures { λ r. ⌜ r ≡ min a b ⌝ }
 {
     if a < b { a } else { b }
 }
 
+// 1 and k zeros in binary.
 fn power(k: usize) -> u64
     requires { ⌜ k < 64 ⌝ }
     ensures { λ r. ⌜ r ≡ 2 ^ k ⌝ }
@@ -124,19 +126,104 @@ pub fn push_bfi(out: &mut [u8], at: usize, v: u64, n: usize) -> usize
     push(out, at, v, n)
 }
 
-// The low seven bits of each byte. The next position.
-fn push_sevens(out: &mut [u8], at: usize, text: &[u8]) -> usize
-    requires { ⌜ (at < 2 ^ 61) × (length (now text) < 2 ^ 56) ⌝ }
+// The low seven bits of two bytes from k on, as one number.
+fn two(text: &[u8], k: usize) -> u64
+    requires { ⌜ k + 2 ≤ length (now text) ⌝ }
+    ensures { λ r. ⌜ (bitsOf 14 r ≡ sevens (take 2 (drop k (now (text .entry))))) × (r < 2 ^ 14) ⌝ }
+{
+    wide(text[k]) % 128 * 128 + wide(text[k + 1]) % 128
+}
+
+// Of four.
+fn four(text: &[u8], k: usize) -> u64
+    requires { ⌜ k + 4 ≤ length (now text) ⌝ }
+    ensures { λ r. ⌜ (bitsOf 28 r ≡ sevens (take 4 (drop k (now (text .entry))))) × (r < 2 ^ 28) ⌝ }
+{
+    two(text, k) * 0x4000 + two(text, k + 2)
+}
+
+// Of eight.
+fn block(text: &[u8], k: usize) -> u64
+    requires { ⌜ k + 8 ≤ length (now text) ⌝ }
+    ensures { λ r. ⌜ (bitsOf 56 r ≡ sevens (take 8 (drop k (now (text .entry))))) × (r < 2 ^ 56) ⌝ }
+{
+    four(text, k) * 0x1000_0000 + four(text, k + 4)
+}
+
+// The last byte of a word.
+fn low(w: u64) -> u8
+    ensures { λ r. ⌜ r ≡ w % 256 ⌝ }
+{
+    (w % 256) as u8
+}
+
+// The low n bytes of a word from byte i on.
+fn put_bytes(out: &mut [u8], i: usize, w: u64, n: usize)
+    requires { ⌜ (n ≤ 8) × (i + n ≤ length (now out)) ⌝ }
+    ensures { λ _. ⌜ unpack (now (out .exit)) ≡ sets (unpack (now (out .entry))) (i * 8) (bitsOf (n * 8) w) ⌝ }
+{
+    let mut k = i;
+    let mut left = n;
+    while 0 < left {
+        left -= 1;
+        out[k] = low(w >> (left * 8));
+        k += 1;
+    }
+}
+
+// The low seven bits of n blocks of eight bytes, behind o bits that are carried to byte i. The last o bits, which fill no byte: the caller stores them.
+fn put_blocks(out: &mut [u8], i: usize, o: usize, first: u64, text: &[u8], n: usize) -> u64
+    requires { ⌜ (o < 8) × (first < 2 ^ o) × (i + n * 7 ≤ length (now out)) × (n * 8 ≤ length (now text)) ⌝ }
+    ensures { λ r. ⌜ r < 2 ^ o ⌝ }
+    ensures { λ r. ⌜ sets (unpack (now (out .exit))) ((i + n * 7) * 8) (bitsOf o r) ≡ sets (sets (unpack (now (out .entry))) (i * 8) (bitsOf o first)) (i * 8 + o) (sevens (take (n * 8) (now (text .entry)))) ⌝ }
+{
+    let p = power(o);
+    let mut carried = first;
+    let mut j = 0;
+    while j < n {
+        let x = carried * 0x100_0000_0000_0000 + block(text, j * 8);
+        put_bytes(out, i + j * 7, x >> o, 7);
+        carried = x % p;
+        j += 1;
+    }
+    carried
+}
+
+// The low seven bits of each byte, one by one as long as there is room. The next position.
+fn push_each(out: &mut [u8], at: usize, text: &[u8]) -> usize
+    requires { ⌜ at + length (now text) * 7 < 2 ^ 62 ⌝ }
     ensures { λ r. ⌜ Wrote (unpack (now (out .entry))) at (sevens (now (text .entry))) (unpack (now (out .exit))) r ⌝ }
     ensures { λ r. ⌜ r ≡ at + length (now (text .entry)) * 7 ⌝ }
 {
     let mut pos = at;
     let mut i = 0;
     while i < text.len() {
+        if out.len() <= pos / 8 {
+            return at + text.len() * 7;
+        }
         pos = push(out, pos, wide(text[i]), 7);
         i += 1;
     }
     pos
+}
+
+// The low seven bits of each byte. The next position.
+fn push_sevens(out: &mut [u8], at: usize, text: &[u8]) -> usize
+    requires { ⌜ (at < 2 ^ 61) × (length (now text) < 2 ^ 56) ⌝ }
+    ensures { λ r. ⌜ Wrote (unpack (now (out .entry))) at (sevens (now (text .entry))) (unpack (now (out .exit))) r ⌝ }
+    ensures { λ r. ⌜ r ≡ at + length (now (text .entry)) * 7 ⌝ }
+{
+    let i = at / 8;
+    if out.len() <= i {
+        return at + text.len() * 7;
+    }
+    let o = at % 8;
+    let n = least(text.len() / 8, (out.len() - i) / 7);
+    let first = wide(out[i]) >> (8 - o);
+    let carried = put_blocks(out, i, o, first, text, n);
+    let pos = push(out, (i + n * 7) * 8, carried, o);
+    let k = n * 8;
+    push_each(out, pos, &text[k..])
 }
 
 // Eight pad bits behind a text: the opposite of its last bit, or of the bit before it where it is empty.

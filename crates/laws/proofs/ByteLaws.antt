@@ -154,7 +154,7 @@ bits-past s at b h = sets-out (unpack s) at b (omega (arith, length-unpack s))
 
 -- ---- bytes stored as their bits
 
-set-bits : (s : List ℕ) (i x : ℕ) → unpack (set s i x) ≡ sets (unpack s) (i * 8) (bitsOf 8 x)
+pub set-bits : (s : List ℕ) (i x : ℕ) → unpack (set s i x) ≡ sets (unpack s) (i * 8) (bitsOf 8 x)
 unfolding unpack
 set-bits [] i x = sym (sets-nil (i * 8) (bitsOf 8 x))
 set-bits (y ∷ s) zero x = unfold bitsOf in refl
