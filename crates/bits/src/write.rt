@@ -23,18 +23,33 @@ pub fn byte(out: &mut [u8], at: usize, x: u8) -> usize
     at + 1
 }
 
+// Bytes from a place on, all of which fit.
+fn copy_all(out: &mut [u8], at: usize, src: &[u8])
+    requires { ⌜ at + length (now src) ≤ length (now out) ⌝ }
+    ensures { λ _. ⌜ now (out .exit) ≡ sets (now (out .entry)) at (now (src .entry)) ⌝ }
+{
+    let mut i = 0;
+    while i < src.len() {
+        out[at + i] = src[i];
+        i += 1;
+    }
+}
+
 // Bytes from a place on. The next place.
 pub fn copy(out: &mut [u8], at: usize, src: &[u8]) -> usize
     requires { ⌜ (at < 2 ^ 61) × (length (now src) < 2 ^ 60) ⌝ }
     ensures { λ r. ⌜ Wrote (now (out .entry)) at (now (src .entry)) (now (out .exit)) r ⌝ }
 {
-    let mut next = at;
-    let mut i = 0;
-    while i < src.len() {
-        next = byte(out, next, src[i]);
-        i += 1;
+    if out.len() <= at {
+        return at + src.len();
     }
-    next
+    let room = out.len() - at;
+    if room < src.len() {
+        copy_all(out, at, &src[..room]);
+        return at + src.len();
+    }
+    copy_all(out, at, src);
+    at + src.len()
 }
 
 // The smaller of two numbers.

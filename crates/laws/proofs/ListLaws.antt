@@ -1,13 +1,13 @@
 -- Runs of stores into a list, and lists that were joined.
 -- Assumes nothing.
-use mathlib.Core.Path.{_≡_, refl, _∙_}
+use mathlib.Core.Path.{_≡_, refl, sym, _∙_}
 use mathlib.Core.List.{List, [], _∷_, _++_, append-assoc, append-nil}
 use Prim.Native.Nat.{ℕ, suc, _+_, _-_, _≤_, _<_}
 use native.Mathlib.Nat.{zero-add, add-zero, add-suc, suc-add}
 use native.Mathlib.Numerals.{add-one}
 use native.Mathlib.Omega.{arith}
-use lib.ListN.{length, getD, set, take, drop, length-append, length-drop, length-set}
-use lib.Seq.{take-at, drop-at, take-all, take-suc, length-take-le, drop-length, set-out, set-append-left, sets, sets-eq}
+use lib.ListN.{length, getD, set, take, drop, length-append, length-drop, length-set, take-append-drop}
+use lib.Seq.{take-at, drop-at, take-all, take-suc, length-take-le, drop-length, set-out, set-append-left, sets, sets-eq, length-sets}
 
 module _ {A : Type 0} where
   pub set-past : (xs ys : List A) (n : ℕ) (a : A) → set (xs ++ ys) (length xs + n) a ≡ xs ++ set ys n a
@@ -45,6 +45,13 @@ module _ {A : Type 0} where
   pub sets-append : (l : List A) (i : ℕ) (vs ws : List A) → sets l i (vs ++ ws) ≡ sets (sets l i vs) (i + length vs) ws
   sets-append l i [] ws = rw add-zero
   sets-append l i (v ∷ vs) ws = rw (sets-append (set l i v) (suc i) vs ws, suc-add, add-suc)
+
+  -- only what has room is stored
+  pub sets-clip : (l : List A) (i k : ℕ) (vs : List A) → k ≤ length vs → length l ≤ i + k → sets l i (take k vs) ≡ sets l i vs
+  sets-clip l i k vs h r =
+      let parts = sets-append l i (take k vs) (drop k vs) in
+      sym (rw (take-append-drop k vs, length-take-le k vs h) at parts
+      ∙ sets-out (sets l i (take k vs)) (i + k) (drop k vs) (omega (arith, length-sets l i (take k vs))))
 
   -- one store more
   pub sets-take-suc : (l : List A) (at : ℕ) (vs : List A) (i : ℕ) (d : A) → i < length vs
