@@ -1,3 +1,4 @@
+pub mod BlockLaws
 pub mod ReadLaws
 pub mod TakenLaws
 pub mod Text7Laws

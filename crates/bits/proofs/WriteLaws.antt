@@ -1,61 +1,63 @@
--- What the writers lean on: one bit of a byte, a bit more of a number, pad bits, the highest bits.
+-- What the writers lean on: some bits of a byte, more bits of a number, pad bits, the highest bits.
 -- Assumes nothing.
 use mathlib.Core.Path.{_≡_, refl, sym, ap, _∙_}
 use mathlib.Core.Bool.{Bool, true, false, not}
 use mathlib.Core.List.{List}
 use Prim.Native.Nat.{ℕ, zero, suc, _+_, _-_, _*_, _/_, _%_, _^_, _≤_, _<_}
-use native.Mathlib.Nat.{div-div-eq-div-mul, div-one, mod-lt, pow-suc, lt-of-lt-of-le, zero-div}
+use native.Mathlib.Nat.{div-one, sub-self, mod-lt, pow-suc, lt-of-lt-of-le, zero-div}
 use native.Mathlib.Omega.{arith}
-use lib.ListN.{length, getD, set, take, replicate, getD-replicate}
-use lib.Seq.{set-at, sets}
-use lib.Arith.{digits-lt, digits-div, digits-mod}
+use lib.ListN.{length, getD, replicate, getD-replicate}
+use lib.Seq.{sets}
+use lib.Arith.{digits-lt}
 use lib.Count.{leading-length}
-use lib.Pow.{pow-mono, pow-add, pow-pos, shr-lt}
+use lib.Pow.{pow-mono, pow-add, pow-pos, shr-lt, shr-shr}
 use Rattle.laws.specs.Bits.{odd, bitsOf}
 use Rattle.laws.specs.Pick.{pick}
-use Rattle.laws.proofs.BitLaws.{odd-cong, bits-cong, bits-around, length-bits, getD-bits}
+use Rattle.laws.proofs.BitLaws.{bits-append, bits-join, bits-mod, length-bits, getD-bits}
 use Rattle.laws.proofs.Cases.{by-le}
-use Rattle.laws.proofs.ListLaws.{sets-take-suc}
+use Rattle.laws.proofs.ListLaws.{sets-append, sets-over}
 use Rattle.bits.specs.Write.{widthOf, topBits}
 
--- ---- one bit of a byte
+-- ---- some bits of a byte
 
--- x with the last bit of b for its bit j, counted from the least significant
-unfoldable pub mix : ℕ → ℕ → ℕ → ℕ
-mix x j b = (x / 2 ^ j / 2 * 2 + b % 2) * 2 ^ j + x % 2 ^ j
+-- x with the low m bits of v for those in front of its last r
+unfoldable pub splice : ℕ → ℕ → ℕ → ℕ → ℕ
+splice x v m r = (x / 2 ^ r / 2 ^ m * 2 ^ m + v % 2 ^ m) * 2 ^ r + x % 2 ^ r
 
-mix-high : (x j b : ℕ) → mix x j b / 2 ^ j ≡ x / 2 ^ j / 2 * 2 + b % 2
-unfolding mix
-mix-high x j b = digits-div (x / 2 ^ j / 2 * 2 + b % 2) (mod-lt x (pow-pos j))
+module _ (n o m r x v : ℕ) (e : o + m + r ≡ n) where
+  pub bits-splice : bitsOf n (splice x v m r) ≡ sets (bitsOf n x) o (bitsOf m v)
+  unfolding splice
+  bits-splice =
+      rw (← e, bits-join (o + m) r (x / 2 ^ r / 2 ^ m * 2 ^ m + v % 2 ^ m) (mod-lt x (pow-pos r)), bits-join o m (x / 2 ^ r / 2 ^ m) (mod-lt v (pow-pos m)), bits-mod m v, bits-mod r x, bits-append (o + m) r x, bits-append o m (x / 2 ^ r))
+      (sym (sets-over (bitsOf o (x / 2 ^ r / 2 ^ m)) (bitsOf m (x / 2 ^ r)) (bitsOf r x) (bitsOf m v) o (length-bits o (x / 2 ^ r / 2 ^ m))
+      (length-bits m v ∙ sym (length-bits m (x / 2 ^ r)))))
 
-mix-low : (x j b : ℕ) → mix x j b % 2 ^ j ≡ x % 2 ^ j
-unfolding mix
-mix-low x j b = digits-mod (x / 2 ^ j / 2 * 2 + b % 2) (mod-lt x (pow-pos j))
+  pub splice-lt : x < 2 ^ n → splice x v m r < 2 ^ n
+  unfolding splice
+  splice-lt h =
+      let y : x / 2 ^ r / 2 ^ m < 2 ^ o = shr-lt o m (shr-lt (o + m) r (rw e h)) in
+      rw (← e, pow-add 2 (o + m) r, pow-add 2 o m) (digits-lt (digits-lt y (mod-lt v (pow-pos m))) (mod-lt x (pow-pos r)))
 
-half-pow : (x j : ℕ) → x / 2 ^ suc j ≡ x / 2 ^ j / 2
-half-pow x j = rw pow-suc (sym (div-div-eq-div-mul x (2 ^ j) 2))
+-- ---- some bits more of a number
 
-pub bits-mix : (n m j x b : ℕ) → m + suc j ≡ n → bitsOf n (mix x j b) ≡ set (bitsOf n x) m (odd b)
-bits-mix n m j x b e =
-    let hi : mix x j b / 2 ^ suc j ≡ x / 2 ^ suc j = omega (arith, half-pow x j, half-pow (mix x j b) j, mix-high x j b) in
-    let bit : odd (mix x j b / 2 ^ j) ≡ odd b = odd-cong (mix x j b / 2 ^ j) b (omega (arith, mix-high x j b)) in
-    rw (bits-around n m j x e, bits-around n m j (mix x j b) e, hi, bit, bits-cong j (mix x j b) x (mix-low x j b))
-    (sym (set-at (bitsOf m (x / 2 ^ suc j)) (odd (x / 2 ^ j)) (bitsOf j x) (odd b) m (length-bits m (x / 2 ^ suc j))))
+pub sets-bits-more : (l : List Bool) (at n m v : ℕ)
+    → sets (sets l at (bitsOf n (v / 2 ^ m))) (at + n) (bitsOf m v) ≡ sets l at (bitsOf (n + m) v)
+sets-bits-more l at n m v =
+    let e = sets-append l at (bitsOf n (v / 2 ^ m)) (bitsOf m v) in
+    rw (bits-append n m v) (sym (rw (length-bits n (v / 2 ^ m)) at e))
 
-pub mix-lt : (n m j x b : ℕ) → m + suc j ≡ n → x < 2 ^ n → mix x j b < 2 ^ n
-unfolding mix
-mix-lt n m j x b e h =
-    let q : suc m + j ≡ n = omega arith in
-    let y : x / 2 ^ j < 2 ^ suc m = shr-lt (suc m) j (rw q h) in
-    let z : x / 2 ^ j / 2 * 2 + b % 2 < 2 ^ suc m = omega (arith, pow-suc 2 m) in
-    rw (← q, pow-add 2 (suc m) j) (digits-lt z (mod-lt x (pow-pos j)))
+-- of n bits all but `left` are there, and m more are stored
+pub sets-bits-left : (l : List Bool) (at v : ℕ) {n left m : ℕ} → left ≤ n → m ≤ left
+    → sets (sets l at (bitsOf (n - left) (v / 2 ^ left))) (at + (n - left)) (bitsOf m (v / 2 ^ (left - m)))
+    ≡ sets l at (bitsOf (n - (left - m)) (v / 2 ^ (left - m)))
+sets-bits-left l at v {n} {left} {m} h k =
+    let e : left - m + m ≡ left = omega arith in
+    let f : n - left + m ≡ n - (left - m) = omega arith in
+    rw (shr-shr, e, f) at (sets-bits-more l at (n - left) m (v / 2 ^ (left - m)))
 
--- ---- one bit more of a number
-
-pub sets-bits-suc : (l : List Bool) (at n i v : ℕ) → i < n
-    → sets l at (take (i + 1) (bitsOf n v)) ≡ set (sets l at (take i (bitsOf n v))) (at + i) (odd (v / 2 ^ (n - 1 - i)))
-sets-bits-suc l at n i v h =
-    rw (sets-take-suc l at (bitsOf n v) i false (omega (arith, length-bits n v)), getD-bits n i (n - 1 - i) v (omega arith))
+pub sets-bits-none : (l : List Bool) (at v n : ℕ) → l ≡ sets l at (bitsOf (n - n) v)
+unfolding bitsOf
+sets-bits-none l at v n = rw sub-self
 
 -- ---- pad bits
 

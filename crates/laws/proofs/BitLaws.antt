@@ -4,13 +4,13 @@ use mathlib.Core.Path.{_≡_, refl, sym, ap, ap₂, _∙_}
 use mathlib.Core.Bool.{Bool, true, false, not}
 use mathlib.Core.List.{List, [], _∷_, _++_}
 use Prim.Native.Nat.{ℕ, zero, suc, _+_, _*_, _/_, _%_, _^_, _≤_, _<_}
-use native.Mathlib.Nat.{zero-add, suc-add, add-comm, not-suc-le-zero, le-of-suc-le-suc, mod-eq-of-lt, pow-suc, mul-assoc, lt-of-lt-of-le}
+use native.Mathlib.Nat.{zero-add, suc-add, add-comm, not-suc-le-zero, le-of-suc-le-suc, mod-eq-of-lt, mod-lt, pow-suc, mul-assoc, lt-of-lt-of-le}
 use native.Mathlib.Numerals.{add-one, one-add}
 use native.Mathlib.Omega.{arith}
 use lib.ListN.{length, length-take, length-append, getD, take}
 use lib.Seq.{getD-at, take-suc}
 use lib.Dec.{eqb}
-use lib.Pow.{pow-mono, shr-shr, high, low, mod-pow-add, field, mod-mod-pow}
+use lib.Pow.{pow-mono, pow-pos, shr-shr, high, low, mod-pow-add, field, mod-mod-pow}
 use lib.Arith.{digits-lt}
 use borrow.Author.Tests.{eqb-true, eqb-false, eq-eqb, ne-eqb}
 use Rattle.laws.specs.Bits.{odd, num, bitsOf, valueOf}
@@ -77,6 +77,14 @@ pub bits-append : (m j v : ℕ) → bitsOf (m + j) v ≡ bitsOf m (v / 2 ^ j) ++
 unfolding bitsOf
 bits-append zero j v = rw zero-add
 bits-append (suc m) j v = rw (suc-add, shr-shr, add-comm j m, bits-append m j v)
+
+-- numbers side by side
+pub bits-join : (m n a : ℕ) {b : ℕ} → b < 2 ^ n → bitsOf (m + n) (a * 2 ^ n + b) ≡ bitsOf m a ++ bitsOf n b
+bits-join m n a {b} h =
+    rw (bits-append m n (a * 2 ^ n + b), high a n h, bits-cong n (a * 2 ^ n + b) b (low a n h ∙ sym (mod-eq-of-lt h)))
+
+pub bits-mod : (n v : ℕ) → bitsOf n (v % 2 ^ n) ≡ bitsOf n v
+bits-mod n v = bits-cong n (v % 2 ^ n) v (mod-eq-of-lt (mod-lt v (pow-pos n)))
 
 -- bit j from the end is the m-th from the front
 pub bits-around : (n m j v : ℕ) → m + suc j ≡ n → bitsOf n v ≡ bitsOf m (v / 2 ^ suc j) ++ odd (v / 2 ^ j) ∷ bitsOf j v

@@ -7,11 +7,11 @@ use Prim.Native.Nat.{ℕ, zero, suc, _+_, _-_, _*_, _/_, _%_, _^_, _≤_, _<_, z
 use native.Mathlib.Nat.{zero-add, suc-add, not-suc-le-zero, le-of-suc-le-suc, mod-eq-of-lt, sub-zero, suc-sub-suc}
 use native.Mathlib.Omega.{arith}
 use lib.ListN.{length, getD, set, take, drop, replicate, length-append, length-drop, length-take, length-set, List·getD-append}
-use lib.Seq.{sets, set-out, set-append-left, take-at, drop-at, take-nil, drop-nil, take-append-add, drop-append-add, getD-append-add, getD-take, getD-drop, getD-set-same, getD-set-other}
+use lib.Seq.{sets, take-at, drop-at, take-nil, drop-nil, take-append-add, drop-append-add, getD-append-add, getD-take, getD-drop, getD-set-same, getD-set-other}
 use Rattle.laws.specs.Bits.{Bytes, odd, bitsOf, fit, packN, pack, unpack}
 use Rattle.laws.proofs.BitLaws.{length-bits, value-bits, value-lt, bits-value, getD-bits}
 use Rattle.laws.proofs.Cases.{by-eq}
-use Rattle.laws.proofs.ListLaws.{set-past, sets-past, sets-nil, sets-append}
+use Rattle.laws.proofs.ListLaws.{sets-past, sets-nil, sets-append, sets-out, sets-left}
 
 -- ---- filling up with zeros
 
@@ -131,30 +131,30 @@ get-unpack s at h =
     let e : at / 8 * 8 + at % 8 ≡ at = omega arith in
     rw e at (getD-unpack s (at / 8) (at % 8) (7 - at % 8) (omega arith) (omega arith))
 
--- a byte y in the place of byte i, of which it has all bits but bit m
-set-unpack : (s : List ℕ) (i m y : ℕ) (b : Bool) → m < 8 → i < length s → bitsOf 8 y ≡ set (bitsOf 8 (getD s i 0)) m b
-    → unpack (set s i y) ≡ set (unpack s) (i * 8 + m) b
+-- a byte y in the place of byte i, of which it has all bits but those from bit m on that are stored
+set-unpack : (s : List ℕ) (i m y : ℕ) (b : List Bool) → m + length b ≤ 8 → i < length s → bitsOf 8 y ≡ sets (bitsOf 8 (getD s i 0)) m b
+    → unpack (set s i y) ≡ sets (unpack s) (i * 8 + m) b
 unfolding unpack
 set-unpack [] i m y b l h e = absurd (not-suc-le-zero h)
 set-unpack (x ∷ s) zero m y b l h e =
-    rw (zero-add m, e) (sym (set-append-left (bitsOf 8 x) (unpack s) m b (omega (arith, length-bits 8 x))))
+    rw (zero-add m, e) (sym (sets-left (bitsOf 8 x) (unpack s) m b (omega (arith, length-bits 8 x))))
 set-unpack (x ∷ s) (suc i) m y b l h e =
     let q : suc i * 8 + m ≡ length (bitsOf 8 x) + (i * 8 + m) = omega (arith, length-bits 8 x) in
-    rw (q, set-past (bitsOf 8 x) (unpack s) (i * 8 + m) b, set-unpack s i m y b l (le-of-suc-le-suc h) e)
+    rw (q, sets-past (bitsOf 8 x) (unpack s) (i * 8 + m) b, set-unpack s i m y b l (le-of-suc-le-suc h) e)
 
-pub put-unpack : (s : List ℕ) (at y : ℕ) (b : Bool) → at / 8 < length s → bitsOf 8 y ≡ set (bitsOf 8 (getD s (at / 8) 0)) (at % 8) b
-    → unpack (set s (at / 8) y) ≡ set (unpack s) at b
-put-unpack s at y b h f =
+pub put-unpack : (s : List ℕ) (at y : ℕ) (b : List Bool) → at % 8 + length b ≤ 8 → at / 8 < length s
+    → bitsOf 8 y ≡ sets (bitsOf 8 (getD s (at / 8) 0)) (at % 8) b → unpack (set s (at / 8) y) ≡ sets (unpack s) at b
+put-unpack s at y b l h f =
     let e : at / 8 * 8 + at % 8 ≡ at = omega arith in
-    rw e at (set-unpack s (at / 8) (at % 8) y b (omega arith) h f)
+    rw e at (set-unpack s (at / 8) (at % 8) y b l h f)
 
 -- past the end nothing is stored
-pub bit-past : (s : List ℕ) (at : ℕ) (b : Bool) → length s ≤ at / 8 → set (unpack s) at b ≡ unpack s
-bit-past s at b h = set-out (unpack s) at b (omega (arith, length-unpack s))
+pub bits-past : (s : List ℕ) (at : ℕ) (b : List Bool) → length s ≤ at / 8 → sets (unpack s) at b ≡ unpack s
+bits-past s at b h = sets-out (unpack s) at b (omega (arith, length-unpack s))
 
 -- ---- bytes stored as their bits
 
-set-bits : (s : List ℕ) (i x : ℕ) → unpack (set s i x) ≡ sets (unpack s) (i * 8) (bitsOf 8 x)
+pub set-bits : (s : List ℕ) (i x : ℕ) → unpack (set s i x) ≡ sets (unpack s) (i * 8) (bitsOf 8 x)
 unfolding unpack
 set-bits [] i x = sym (sets-nil (i * 8) (bitsOf 8 x))
 set-bits (y ∷ s) zero x = unfold bitsOf in refl

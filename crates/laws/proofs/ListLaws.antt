@@ -1,13 +1,13 @@
 -- Runs of stores into a list, and lists that were joined.
 -- Assumes nothing.
-use mathlib.Core.Path.{_≡_, refl}
-use mathlib.Core.List.{List, [], _∷_, _++_, append-assoc}
+use mathlib.Core.Path.{_≡_, refl, sym, _∙_}
+use mathlib.Core.List.{List, [], _∷_, _++_, append-assoc, append-nil}
 use Prim.Native.Nat.{ℕ, suc, _+_, _-_, _≤_, _<_}
 use native.Mathlib.Nat.{zero-add, add-zero, add-suc, suc-add}
 use native.Mathlib.Numerals.{add-one}
 use native.Mathlib.Omega.{arith}
-use lib.ListN.{length, getD, set, take, drop, length-append, length-drop}
-use lib.Seq.{take-at, drop-at, take-all, take-suc, length-take-le, sets, sets-eq}
+use lib.ListN.{length, getD, set, take, drop, length-append, length-drop, length-set, take-append-drop}
+use lib.Seq.{take-at, drop-at, take-all, take-suc, length-take-le, drop-length, set-out, set-append-left, sets, sets-eq, length-sets}
 
 module _ {A : Type 0} where
   pub set-past : (xs ys : List A) (n : ℕ) (a : A) → set (xs ++ ys) (length xs + n) a ≡ xs ++ set ys n a
@@ -23,10 +23,35 @@ module _ {A : Type 0} where
   sets-nil i [] = refl
   sets-nil i (v ∷ vs) = sets-nil (suc i) vs
 
+  -- nor past the end
+  pub sets-out : (l : List A) (i : ℕ) (vs : List A) → length l ≤ i → sets l i vs ≡ l
+  sets-out l i [] h = refl
+  sets-out l i (v ∷ vs) h = rw (set-out l i v h) (sets-out l (suc i) vs (omega arith))
+
+  -- into the first of two lists
+  pub sets-left : (xs ys : List A) (i : ℕ) (vs : List A) → i + length vs ≤ length xs → sets (xs ++ ys) i vs ≡ sets xs i vs ++ ys
+  sets-left xs ys i [] h = refl
+  sets-left xs ys i (v ∷ vs) h =
+      rw (set-append-left xs ys i v (omega arith)) (sets-left (set xs i v) ys (suc i) vs (omega (arith, length-set xs i v)))
+
+  -- over the middle of three
+  pub sets-over : (p q r vs : List A) (n : ℕ) → length p ≡ n → length vs ≡ length q → sets ((p ++ q) ++ r) n vs ≡ (p ++ vs) ++ r
+  sets-over p q r vs n e h =
+      let whole : sets q 0 vs ≡ vs = sets-eq vs q 0 (omega arith) ∙ rw (zero-add, h, drop-length q) (append-nil vs) in
+      let z : n ≡ length p + 0 = omega arith in
+      rw (sets-left (p ++ q) r n vs (omega (arith, length-append p q)), z, sets-past p q 0 vs, whole)
+
   -- one run of stores after another
   pub sets-append : (l : List A) (i : ℕ) (vs ws : List A) → sets l i (vs ++ ws) ≡ sets (sets l i vs) (i + length vs) ws
   sets-append l i [] ws = rw add-zero
   sets-append l i (v ∷ vs) ws = rw (sets-append (set l i v) (suc i) vs ws, suc-add, add-suc)
+
+  -- only what has room is stored
+  pub sets-clip : (l : List A) (i k : ℕ) (vs : List A) → k ≤ length vs → length l ≤ i + k → sets l i (take k vs) ≡ sets l i vs
+  sets-clip l i k vs h r =
+      let parts = sets-append l i (take k vs) (drop k vs) in
+      sym (rw (take-append-drop k vs, length-take-le k vs h) at parts
+      ∙ sets-out (sets l i (take k vs)) (i + k) (drop k vs) (omega (arith, length-sets l i (take k vs))))
 
   -- one store more
   pub sets-take-suc : (l : List A) (at : ℕ) (vs : List A) (i : ℕ) (d : A) → i < length vs

@@ -1,70 +1,69 @@
--- `bits::write::copy` meets its contract. The first i bytes are written.
+-- `bits::write::copy` meets its contract: what has no room is not stored.
 -- Assumes nothing.
 use borrow.Author.Needs.{needs}
-use mathlib.Core.Path.{_≡_}
 use native.Mathlib.Omega.{arith}
-use native.Mathlib.Numerals.{add-one}
-use Prim.Native.Nat.{_+_, _-_, _≤_}
-use lib.ListN.{length, take}
-use lib.Seq.{take-all, take-suc}
+use mathlib.Core.Path.{refl, sym, _∙_}
+use Prim.Native.Nat.{_-_}
+use lib.ListN.{length, length-take}
 use denote.Ref.{now}
-use Rattle.laws.specs.Wrote.{Wrote}
-use Rattle.laws.proofs.WroteLaws.{wrote-then, wrote-none}
+use Rattle.laws.proofs.ListLaws.{sets-out, sets-clip}
 use Rattle.bits.proofs.write.copy.Statement.{statement}
 use Rattle.bits.proofs.write.copy.Tie as tie
 
-abbrev Inv-loop : tie.InvT-loop
-Inv-loop out₀ at src next₀ i₀ out next i = (i ≤ length src) × (next ≡ at + i) × (length out ≡ length out₀) × Wrote out₀ at (take i src) out next
+add-result : tie.Need-add-result
+add-result c = search needs
 
-abbrev μ-loop : tie.MeasureT-loop
-μ-loop out₀ at src next₀ i₀ out next i = length src - i
+returns : tie.Need-returns
+returns c =
+    let a = c .before .before .before .args in
+    record { stored = sym (sets-out (now (a .out)) (a .at) (now (a .src)) (c .if1 .taken)); next-is = refl }
 
-loop-holds : tie.Need-loop-holds Inv-loop μ-loop
-loop-holds c = (search needs, search needs, search needs, wrote-none)
+sub-room : tie.Need-sub-room
+sub-room c = search needs
 
-shared-slice-read-byte : tie.Need-shared-slice-read-byte Inv-loop μ-loop
-shared-slice-read-byte c = search needs
+slice-aggregate-copy-all : tie.Need-slice-aggregate-copy-all
+slice-aggregate-copy-all c = simp length-take (omega arith)
 
-byte-requires : tie.Need-byte-requires Inv-loop μ-loop
-byte-requires c κs = search needs
+copy-all-requires : tie.Need-copy-all-requires
+copy-all-requires c κs = simp length-take (omega arith)
 
-add-i : tie.Need-add-i Inv-loop μ-loop
-add-i c = search needs
+add-result-2 : tie.Need-add-result-2
+add-result-2 c = search needs
 
-loop-less : tie.Need-loop-less Inv-loop μ-loop
-loop-less c = search needs
-
-loop-again : tie.Need-loop-again Inv-loop μ-loop
-loop-again c =
-    let byte = c .before .before .byte in
-    let t = c .before .before .before .before .before in
-    let src = now (t .before .before .before .before .args .src) in
-    let i = t .before .loop .i in (
-      search needs,
-      omega (arith, byte .ensures .next-is),
-      search needs,
-      rw (add-one, take-suc src i 0 (t .loop-test .taken)) (wrote-then (t .before .loop .inv .3) (byte .ensures)),
-    )
-
-same-length : tie.Need-same-length Inv-loop μ-loop
+same-length : tie.Need-same-length
 same-length c = search needs
 
-returns : tie.Need-returns Inv-loop μ-loop
-returns c =
-    let t = c .before in
-    rw (take-all (t .loop .i) (now (t .before .before .before .args .src)) (omega arith)) at (t .loop .inv .3)
+returns-2 : tie.Need-returns-2
+returns-2 c =
+    let a = c .before .before .before .before .before .before .before .before .before .args in
+    let out = now (a .out) in
+    record { stored = c .before .before .copy-all .ensures ∙ sets-clip out (a .at) (length out - a .at) (now (a .src)) (omega arith) (omega arith); next-is = refl }
+
+copy-all-requires-2 : tie.Need-copy-all-requires-2
+copy-all-requires-2 c κs = search needs
+
+add-result-3 : tie.Need-add-result-3
+add-result-3 c = search needs
+
+same-length-2 : tie.Need-same-length-2
+same-length-2 c = search needs
+
+returns-3 : tie.Need-returns-3
+returns-3 c = search needs
 
 pub copy-spec : {M : Type 1} → statement M
 copy-spec =
     tie.close
     (tie.spec
-    Inv-loop
-    μ-loop
-    loop-holds
-    shared-slice-read-byte
-    byte-requires
-    add-i
-    loop-less
-    loop-again
+    add-result
+    returns
+    sub-room
+    slice-aggregate-copy-all
+    copy-all-requires
+    add-result-2
     same-length
-    returns)
+    returns-2
+    copy-all-requires-2
+    add-result-3
+    same-length-2
+    returns-3)

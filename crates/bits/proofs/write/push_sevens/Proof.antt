@@ -1,78 +1,121 @@
--- `bits::write::push_sevens` meets its contract. The first i bytes are written.
+-- `bits::write::push_sevens` meets its contract: the blocks, the bits that are carried then, and the rest of the text.
 -- Assumes nothing.
 use borrow.Author.Needs.{needs}
 use native.Mathlib.Omega.{arith}
-use native.Mathlib.Numerals.{add-one}
-use mathlib.Core.Path.{_≡_}
-use Prim.Native.Nat.{_+_, _-_, _*_, _≤_}
-use lib.ListN.{length, take}
-use lib.Seq.{take-all}
+use mathlib.Core.Path.{_≡_, refl, sym, _∙_}
+use Prim.Native.Nat.{_+_, _*_, _/_, _%_, _<_}
 use denote.Ref.{now}
-use Rattle.laws.specs.Bits.{unpack}
-use Rattle.laws.specs.Wrote.{Wrote}
-use Rattle.laws.proofs.WroteLaws.{wrote-then, wrote-none}
+use Rattle.laws.proofs.ByteLaws.{bits-past}
 use Rattle.bits.specs.Text7.{sevens}
-use Rattle.bits.proofs.Text7Laws.{sevens-take-suc}
+use Rattle.bits.proofs.BlockLaws.{sevens-wrote, first-lt, first-there}
+use Rattle.bits.proofs.Text7Laws.{length-sevens}
 use Rattle.bits.proofs.write.push_sevens.Statement.{statement}
 use Rattle.bits.proofs.write.push_sevens.Tie as tie
 
-abbrev Inv-loop : tie.InvT-loop
-Inv-loop out₀ at text pos₀ i₀ out pos i = (i ≤ length text) × (pos ≡ at + i * 7) × (length out ≡ length out₀) × Wrote (unpack out₀) at (sevens (take i text)) (unpack out) pos
+mul-result : tie.Need-mul-result
+mul-result c = search needs
 
-abbrev μ-loop : tie.MeasureT-loop
-μ-loop out₀ at text pos₀ i₀ out pos i = length text - i
+add-result : tie.Need-add-result
+add-result c = search needs
 
-loop-holds : tie.Need-loop-holds Inv-loop μ-loop
-unfolding sevens
-loop-holds c = (search needs, search needs, search needs, wrote-none)
+returns : tie.Need-returns
+returns c =
+    let a = c .before .before .before .args in
+    let s = now (a .text) in
+    (record { stored = sym (bits-past (now (a .out)) (a .at) (sevens s) (c .if1 .taken)); next-is = omega (arith, length-sevens s) }, refl)
 
-shared-slice-read-wide : tie.Need-shared-slice-read-wide Inv-loop μ-loop
-shared-slice-read-wide c = search needs
+sub-least : tie.Need-sub-least
+sub-least c = search needs
 
-wide-requires : tie.Need-wide-requires Inv-loop μ-loop
+least-requires : tie.Need-least-requires
+least-requires c κs = search needs
+
+slice-read-wide : tie.Need-slice-read-wide
+slice-read-wide c = search needs
+
+wide-requires : tie.Need-wide-requires
 wide-requires c κs = search needs
 
-push-requires : tie.Need-push-requires Inv-loop μ-loop
+sub-first : tie.Need-sub-first
+sub-first c = search needs
+
+shr-first : tie.Need-shr-first
+shr-first c = search needs
+
+put-blocks-requires : tie.Need-put-blocks-requires
+put-blocks-requires c κs =
+    let a = c .before .before .before .before .before .before .before .args in
+    let w = c .before .wide in
+    let byte : w .result < 256 = omega (arith, w .ensures, c .before .before .slice-known2 .given (a .at / 8)) in
+    (search needs, first-lt (w .result) (omega arith) byte, search needs, search needs)
+
+mul-push : tie.Need-mul-push
+mul-push c = search needs
+
+add-push : tie.Need-add-push
+add-push c = search needs
+
+mul-push-2 : tie.Need-mul-push-2
+mul-push-2 c = search needs
+
+push-requires : tie.Need-push-requires
 push-requires c κs = search needs
 
-add-i : tie.Need-add-i Inv-loop μ-loop
-add-i c = search needs
+mul-k : tie.Need-mul-k
+mul-k c = search needs
 
-loop-less : tie.Need-loop-less Inv-loop μ-loop
-loop-less c = search needs
+sub-push-each : tie.Need-sub-push-each
+sub-push-each c = search needs
 
-loop-again : tie.Need-loop-again Inv-loop μ-loop
-loop-again c =
-    let at-loop = c .before .before .before .before .before .before .before in
-    let t = now (at-loop .before .before .before .args .text) in
-    let i = at-loop .loop .i in (
-      search needs,
-      search needs,
-      search needs,
-      rw (add-one, sevens-take-suc t i (omega arith), ← c .before .before .before .wide .ensures)
-          (wrote-then (at-loop .loop .inv .3) (c .before .before .push .ensures .0)),
-    )
+part-push-each-start : tie.Need-part-push-each-start
+part-push-each-start c = search needs
 
-same-length : tie.Need-same-length Inv-loop μ-loop
+part-push-each-end : tie.Need-part-push-each-end
+part-push-each-end c = search needs
+
+push-each-requires : tie.Need-push-each-requires
+push-each-requires c κs = search needs
+
+same-length : tie.Need-same-length
 same-length c = search needs
 
-returns : tie.Need-returns Inv-loop μ-loop
-returns c =
-    let t = now (c .before .before .before .before .args .text) in
-    (rw (take-all (c .before .loop .i) t (omega arith)) at (c .before .loop .inv .3), search needs)
+returns-2 : tie.Need-returns-2
+returns-2 c =
+    let wide = c .before .before .before .before .before .before .before .before .before .before .before .before .before .wide in
+    let blocks = c .before .before .before .before .before .before .before .before .before .before .before .put-blocks in
+    let push = c .before .before .before .before .before .before .before .push in
+    let start = c .before .before .before .before .before .before .before .before .before .before .before .before .before .before .before in
+    let a = start .before .before .before .before .args in
+    let s = now (a .text) in
+    let k = start .least .result * 8 in
+    let e : a .at / 8 * 8 + a .at % 8 ≡ a .at = omega arith in
+    let there = first-there (now (a .out)) (a .at / 8) (a .at % 8) (omega arith) (omega arith) in
+    let stored = push .ensures .0 .stored ∙ rw (wide .ensures, there, e) at (blocks .ensures .1) in
+    let all = sevens-wrote s k (omega arith) stored (omega (arith, push .ensures .1)) (c .before .before .push-each .ensures .0) in
+    (all, omega (arith, all .next-is, length-sevens s))
 
 pub push-sevens-spec : {M : Type 1} → statement M
 push-sevens-spec =
     tie.close
     (tie.spec
-    Inv-loop
-    μ-loop
-    loop-holds
-    shared-slice-read-wide
+    mul-result
+    add-result
+    returns
+    sub-least
+    least-requires
+    slice-read-wide
     wide-requires
+    sub-first
+    shr-first
+    put-blocks-requires
+    mul-push
+    add-push
+    mul-push-2
     push-requires
-    add-i
-    loop-less
-    loop-again
+    mul-k
+    sub-push-each
+    part-push-each-start
+    part-push-each-end
+    push-each-requires
     same-length
-    returns)
+    returns-2)

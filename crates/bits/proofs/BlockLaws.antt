@@ -1,0 +1,95 @@
+-- Text of seven bits a byte in blocks: numbers of several bytes, and bits carried from one block to the next.
+-- Assumes nothing.
+use mathlib.Core.Path.{_≡_, refl, sym, ap, _∙_}
+use mathlib.Core.Bool.{Bool}
+use mathlib.Core.List.{List, [], _∷_, _++_, append-assoc, append-nil}
+use Prim.Native.Nat.{ℕ, zero, suc, _+_, _-_, _*_, _/_, _%_, _^_, _≤_, _<_}
+use native.Mathlib.Nat.{zero-add, suc-add, add-comm, lt-of-lt-of-le}
+use native.Mathlib.Omega.{arith}
+use lib.ListN.{length, getD, set, take, drop}
+use lib.Seq.{sets, take-length, take-nil, drop-drop, drop-cons, length-take-le, set-getD}
+use lib.Pow.{pow-mono, shr-lt}
+use Rattle.laws.specs.Bits.{bitsOf, unpack}
+use Rattle.laws.specs.Wrote.{Wrote}
+use Rattle.laws.proofs.BitLaws.{length-bits, bits-append, bits-join, bits-mod}
+use Rattle.laws.proofs.ByteLaws.{put-unpack}
+use Rattle.laws.proofs.ListLaws.{sets-append, sets-over}
+use Rattle.laws.proofs.WroteLaws.{wrote-then, wrote-as}
+use Rattle.bits.specs.Text7.{sevens}
+use Rattle.bits.proofs.Text7Laws.{length-sevens}
+use Rattle.bits.proofs.WriteLaws.{sets-bits-more}
+
+-- ---- numbers of several bytes
+
+pub sevens-add : (m n : ℕ) (s : List ℕ) → sevens (take (m + n) s) ≡ sevens (take m s) ++ sevens (take n (drop m s))
+unfolding sevens
+sevens-add zero n s = rw zero-add
+sevens-add (suc m) n [] = rw (suc-add, take-nil)
+sevens-add (suc m) n (c ∷ s) = rw (suc-add, sevens-add m n s, append-assoc)
+
+pub sevens-rest : (s : List ℕ) (i : ℕ) → i ≤ length s → sevens (take i s) ++ sevens (take (length s - i) (drop i s)) ≡ sevens s
+sevens-rest s i h =
+    let e : i + (length s - i) ≡ length s = omega arith in
+    sym (sevens-add i (length s - i) s) ∙ rw (e, take-length s)
+
+-- the first k bytes of a text, and then the others
+pub sevens-wrote : (s : List ℕ) (k : ℕ) {b c d : List Bool} {at pos next : ℕ} → k ≤ length s → c ≡ sets b at (sevens (take k s)) → pos ≡ at + k * 7
+    → Wrote c pos (sevens (take (length s - k) (drop k s))) d next → Wrote b at (sevens s) d next
+sevens-wrote s k {b} {c} {at = at} {pos = pos} h e f g =
+    let front : Wrote b at (sevens (take k s)) c pos =
+    record { stored = e; next-is = omega (arith, length-sevens (take k s), length-take-le k s h) } in
+    wrote-as (sevens-rest s k h) (wrote-then front g)
+
+-- one byte
+pub seven-at : (s : List ℕ) (k : ℕ) → k < length s → bitsOf 7 (getD s k 0 % 128) ≡ sevens (take 1 (drop k s))
+unfolding sevens
+seven-at s k h = rw (drop-cons s k 0 h) (bits-mod 7 (getD s k 0) ∙ sym (append-nil (bitsOf 7 (getD s k 0))))
+
+-- m bytes in front of n
+pub sevens-join : (s : List ℕ) (k m n a : ℕ) {b : ℕ} → bitsOf (m * 7) a ≡ sevens (take m (drop k s)) → bitsOf (n * 7) b ≡ sevens (take n (drop (k + m) s))
+    → b < 2 ^ (n * 7) → bitsOf (m * 7 + n * 7) (a * 2 ^ (n * 7) + b) ≡ sevens (take (m + n) (drop k s))
+sevens-join s k m n a {b} e f h =
+    rw (bits-join (m * 7) (n * 7) a h, e, f, ← drop-drop m k s, sevens-add m n (drop k s))
+
+-- ---- bits carried to the next block
+
+-- o bits are carried to p; n bits come behind them: of the o + n bits the first n are stored, and the last o are carried on
+carry-on : (l : List Bool) (p o n a : ℕ) {b : ℕ} → b < 2 ^ n
+    → sets (sets l p (bitsOf n ((a * 2 ^ n + b) / 2 ^ o))) (p + n) (bitsOf o ((a * 2 ^ n + b) % 2 ^ o)) ≡ sets (sets l p (bitsOf o a)) (p + o) (bitsOf n b)
+carry-on l p o n a {b} h =
+    let x = a * 2 ^ n + b in
+    let e = sets-append l p (bitsOf o a) (bitsOf n b) in
+    rw (bits-mod o x, sets-bits-more l p n o x, add-comm n o, bits-join o n a h) (rw (length-bits o a) at e)
+
+pub carried-lt : (a : ℕ) {o : ℕ} → o < 8 → a < 2 ^ o → a < 128
+carried-lt a {o} h k = lt-of-lt-of-le k (pow-mono {i = o} {j = 7} (omega arith))
+
+-- with the carried bits k bytes of a text are written at q; m more
+pub block-on : (d l : List Bool) (q p o k m a : ℕ) {b : ℕ} (s : List ℕ) → k ≤ length s → p + o ≡ q + k * 7
+    → sets l p (bitsOf o a) ≡ sets d q (sevens (take k s)) → bitsOf (m * 7) b ≡ sevens (take m (drop k s)) → b < 2 ^ (m * 7)
+    → sets (sets l p (bitsOf (m * 7) ((a * 2 ^ (m * 7) + b) / 2 ^ o))) (p + m * 7) (bitsOf o ((a * 2 ^ (m * 7) + b) % 2 ^ o)) ≡ sets d q (sevens (take (k + m) s))
+block-on d l q p o k m a s h e f g lt =
+    let t = sevens (take k s) in
+    let there : q + length t ≡ p + o = omega (arith, length-sevens (take k s), length-take-le k s h) in
+    carry-on l p o (m * 7) a lt ∙ rw (f, g, sevens-add k m s) (sym (rw there at (sets-append d q t (sevens (take m (drop k s))))))
+
+-- ---- the bits in front
+
+pub first-lt : (x : ℕ) {o : ℕ} → o ≤ 8 → x < 256 → x / 2 ^ (8 - o) < 2 ^ o
+first-lt x {o} h k =
+    let e : o + (8 - o) ≡ 8 = omega arith in
+    shr-lt o (8 - o) (rw e k)
+
+-- the first o bits of byte i are there already
+pub first-there : (s : List ℕ) (i o : ℕ) → o ≤ 8 → i < length s → sets (unpack s) (i * 8) (bitsOf o (getD s i 0 / 2 ^ (8 - o))) ≡ unpack s
+first-there s i o h k =
+    let x = getD s i 0 in
+    let front = bitsOf o (x / 2 ^ (8 - o)) in
+    let e : o + (8 - o) ≡ 8 = omega arith in
+    let m : i * 8 % 8 ≡ 0 = omega arith in
+    let d : i * 8 / 8 ≡ i = omega arith in
+    let whole : bitsOf 8 x ≡ front ++ bitsOf (8 - o) x = rw e at (bits-append o (8 - o) x) in
+    let same : bitsOf 8 x ≡ sets (bitsOf 8 x) 0 front = rw whole (sym (sets-over [] front (bitsOf (8 - o) x) front 0 refl refl)) in
+    let there : unpack (set s i x) ≡ sets (unpack s) (i * 8) front =
+    rw d at (put-unpack s (i * 8) x front (omega (arith, length-bits o (x / 2 ^ (8 - o)))) (omega arith) (rw (d, m) same)) in
+    sym there ∙ ap unpack (set-getD s i 0)
