@@ -2,16 +2,18 @@
 ghost use mathlib.Core.Path.{_≡_};
 ghost use mathlib.Core.Bool.{false};
 ghost use mathlib.Core.List.{map};
-ghost use Prim.Native.Nat.{_+_, _-_, _*_, _/_, _^_, _≤_, _<_};
+ghost use Prim.Native.Nat.{_+_, _-_, _*_, _/_, _%_, _^_, _≤_, _<_};
 ghost use lib.ListN.{length, getD, take, drop};
 ghost use lib.Seq.{sets};
-ghost use Rattle.laws.specs.Bits.{odd, num, valueOf, unpack};
+ghost use Rattle.laws.specs.Bits.{odd, num, bitsOf, valueOf, unpack};
 ghost use Rattle.laws.specs.Digits.{numberOf};
 ghost use Rattle.laws.specs.Wrote.{Wrote};
 ghost use Rattle.bits.specs.Read.{takeBits, takeText, letter, taken};
 ghost use Rattle.bits.specs.Text7.{endOf, unsevens, text7Of, text7Next, text7Left};
 use crate::wide;
 use crate::write::byte;
+use crate::write::least;
+use crate::write::power;
 
 // A number and the next position, or too few bits.
 pub enum Taken {
@@ -44,8 +46,49 @@ fn get_bit(s: &[u8], at: usize) -> u64
     (wide(s[i]) >> j) % 2
 }
 
-// The n bits from a position on, as a number.
-fn value(s: &[u8], at: usize, n: usize) -> u64
+// The byte i.
+fn one(s: &[u8], i: usize) -> u64
+    requires { ⌜ i < length (now s) ⌝ }
+    ensures { λ r. ⌜ (bitsOf 8 r ≡ take 8 (drop (i * 8) (unpack (now (s .entry))))) × (r < 2 ^ 8) ⌝ }
+{
+    wide(s[i])
+}
+
+// Two bytes from byte i on, as one number.
+fn two(s: &[u8], i: usize) -> u64
+    requires { ⌜ i + 2 ≤ length (now s) ⌝ }
+    ensures { λ r. ⌜ (bitsOf 16 r ≡ take 16 (drop (i * 8) (unpack (now (s .entry))))) × (r < 2 ^ 16) ⌝ }
+{
+    one(s, i) * 256 + one(s, i + 1)
+}
+
+// Four.
+fn four(s: &[u8], i: usize) -> u64
+    requires { ⌜ i + 4 ≤ length (now s) ⌝ }
+    ensures { λ r. ⌜ (bitsOf 32 r ≡ take 32 (drop (i * 8) (unpack (now (s .entry))))) × (r < 2 ^ 32) ⌝ }
+{
+    two(s, i) * 0x1_0000 + two(s, i + 2)
+}
+
+// Eight.
+fn word(s: &[u8], i: usize) -> u64
+    requires { ⌜ i + 8 ≤ length (now s) ⌝ }
+    ensures { λ r. ⌜ bitsOf 64 r ≡ take 64 (drop (i * 8) (unpack (now (s .entry)))) ⌝ }
+{
+    four(s, i) * 0x1_0000_0000 + four(s, i + 4)
+}
+
+// The n bits from a position on, as a number, where eight bytes are left.
+fn value_in(s: &[u8], at: usize, n: usize) -> u64
+    requires { ⌜ (n ≤ 56) × (at / 8 + 8 ≤ length (now s)) ⌝ }
+    ensures { λ r. ⌜ r ≡ valueOf (take n (drop at (unpack (now (s .entry))))) ⌝ }
+{
+    let v = word(s, at / 8) >> (7 - at % 8);
+    (v >> (57 - n)) % power(n)
+}
+
+// The n bits from a position on, one by one.
+fn value_each(s: &[u8], at: usize, n: usize) -> u64
     requires { ⌜ (n ≤ 64) × (at + n ≤ length (now s) * 8) × (length (now s) < 2 ^ 60) ⌝ }
     ensures { λ r. ⌜ r ≡ valueOf (take n (drop at (unpack (now (s .entry))))) ⌝ }
 {
@@ -56,6 +99,20 @@ fn value(s: &[u8], at: usize, n: usize) -> u64
         i += 1;
     }
     v
+}
+
+// The n bits from a position on, as a number.
+fn value(s: &[u8], at: usize, n: usize) -> u64
+    requires { ⌜ (n ≤ 64) × (at + n ≤ length (now s) * 8) × (length (now s) < 2 ^ 60) ⌝ }
+    ensures { λ r. ⌜ r ≡ valueOf (take n (drop at (unpack (now (s .entry))))) ⌝ }
+{
+    if 56 < n {
+        return value_each(s, at, n);
+    }
+    if s.len() < at / 8 + 8 {
+        return value_each(s, at, n);
+    }
+    value_in(s, at, n)
 }
 
 // The next n bits, as a number.
@@ -130,9 +187,54 @@ fn count(at: usize, end: usize) -> usize
     if at < end { (end - at) / 7 } else { 0 }
 }
 
-// n numbers of seven bits, written from a place of the output on. The next place.
-fn sevens(s: &[u8], at: usize, n: usize, out: &mut [u8], to: usize) -> usize
-    requires { ⌜ (n ≤ (length (now s) * 8 - at) / 7) × (length (now s) < 2 ^ 60) × (to < 2 ^ 61) ⌝ }
+// The 56 bits from a position on, where eight bytes are left.
+fn block(s: &[u8], at: usize) -> u64
+    requires { ⌜ at / 8 + 8 ≤ length (now s) ⌝ }
+    ensures { λ r. ⌜ bitsOf 56 r ≡ take 56 (drop at (unpack (now (s .entry)))) ⌝ }
+{
+    word(s, at / 8) >> (8 - at % 8)
+}
+
+// The last seven bits of a word.
+fn low(v: u64) -> u8
+    ensures { λ r. ⌜ r ≡ v % 128 ⌝ }
+{
+    (v % 128) as u8
+}
+
+// Eight numbers of seven bits, to a place of the output.
+fn put_eight(out: &mut [u8], to: usize, v: u64)
+    requires { ⌜ to + 8 ≤ length (now out) ⌝ }
+    ensures { λ _. ⌜ Wrote (now (out .entry)) to (unsevens 8 (bitsOf 56 v)) (now (out .exit)) (to + 8) ⌝ }
+{
+    let mut k = to;
+    let mut left: usize = 8;
+    while 0 < left {
+        left -= 1;
+        out[k] = low(v >> (left * 7));
+        k += 1;
+    }
+}
+
+// Of n numbers of seven bits as many as go in blocks of eight, written from a place of the output on. How many.
+fn blocks(s: &[u8], at: usize, n: usize, out: &mut [u8], to: usize) -> usize
+    requires { ⌜ (n ≤ (length (now s) * 8 - at) / 7) × (length (now s) < 2 ^ 60) × (to < length (now out)) ⌝ }
+    ensures { λ r. ⌜ r ≤ n ⌝ }
+    ensures { λ r. ⌜ Wrote (now (out .entry)) to (unsevens r (drop at (unpack (now (s .entry))))) (now (out .exit)) (to + r) ⌝ }
+{
+    // nine numbers left are 63 bits, and those reach into eight bytes
+    let most = least(n, out.len() - to);
+    let mut i = 0;
+    while 9 <= most - i {
+        put_eight(out, to + i, block(s, at + i * 7));
+        i += 8;
+    }
+    i
+}
+
+// n numbers of seven bits, one by one, written from a place of the output on. The next place.
+fn sevens_each(s: &[u8], at: usize, n: usize, out: &mut [u8], to: usize) -> usize
+    requires { ⌜ (n ≤ (length (now s) * 8 - at) / 7) × (length (now s) < 2 ^ 60) × (to + n < 2 ^ 62) ⌝ }
     ensures { λ r. ⌜ Wrote (now (out .entry)) to (unsevens n (drop at (unpack (now (s .entry))))) (now (out .exit)) r ⌝ }
 {
     let mut next = to;
@@ -142,6 +244,18 @@ fn sevens(s: &[u8], at: usize, n: usize, out: &mut [u8], to: usize) -> usize
         i += 1;
     }
     next
+}
+
+// n numbers of seven bits, written from a place of the output on. The next place.
+fn sevens(s: &[u8], at: usize, n: usize, out: &mut [u8], to: usize) -> usize
+    requires { ⌜ (n ≤ (length (now s) * 8 - at) / 7) × (length (now s) < 2 ^ 60) × (to < 2 ^ 61) ⌝ }
+    ensures { λ r. ⌜ Wrote (now (out .entry)) to (unsevens n (drop at (unpack (now (s .entry))))) (now (out .exit)) r ⌝ }
+{
+    if out.len() <= to {
+        return to + n;
+    }
+    let i = blocks(s, at, n, out, to);
+    sevens_each(s, at + i * 7, n - i, out, to + i)
 }
 
 // The text from a position on, without the pad, written from a place of the output on.

@@ -53,14 +53,14 @@ pub fn copy(out: &mut [u8], at: usize, src: &[u8]) -> usize
 }
 
 // The smaller of two numbers.
-fn least(a: usize, b: usize) -> usize
+pub(crate) fn least(a: usize, b: usize) -> usize
     ensures { λ r. ⌜ r ≡ min a b ⌝ }
 {
     if a < b { a } else { b }
 }
 
 // 1 and k zeros in binary.
-fn power(k: usize) -> u64
+pub(crate) fn power(k: usize) -> u64
     requires { ⌜ k < 64 ⌝ }
     ensures { λ r. ⌜ r ≡ 2 ^ k ⌝ }
 {

@@ -1,4 +1,4 @@
--- `bits::read::value` meets its contract. The loop has read the first i bits.
+-- `bits::read::value_each` meets its contract. The loop has read the first i bits.
 -- Assumes nothing.
 use borrow.Author.Needs.{needs}
 use native.Mathlib.Omega.{arith}
@@ -12,8 +12,8 @@ use denote.Ref.{now}
 use Rattle.laws.specs.Bits.{unpack, valueOf}
 use Rattle.laws.proofs.BitLaws.{value-take-suc, value-take-fits, num-lt}
 use Rattle.laws.proofs.ByteLaws.{length-unpack}
-use Rattle.bits.proofs.read.value.Statement.{statement}
-use Rattle.bits.proofs.read.value.Tie as tie
+use Rattle.bits.proofs.read.value_each.Statement.{statement}
+use Rattle.bits.proofs.read.value_each.Tie as tie
 
 abbrev Inv-loop : tie.InvT-loop
 Inv-loop s at n v₀ i₀ v i = (i ≤ n) × (v ≡ valueOf (take i (drop at (unpack s))))
@@ -64,8 +64,8 @@ returns c =
     let all : c .before .loop .i ≡ c .before .before .before .args .n = omega arith in
     rw all at (c .before .loop .inv .1)
 
-pub value-spec : {M : Type 1} → statement M
-value-spec =
+pub value-each-spec : {M : Type 1} → statement M
+value-each-spec =
     tie.close
     (tie.spec
     Inv-loop

@@ -1,0 +1,87 @@
+-- Bits of eight bytes as a word: a part of them, and numbers of seven bits in blocks of eight.
+-- Assumes nothing.
+use mathlib.Core.Path.{_≡_, refl, sym, ap, _∙_}
+use mathlib.Core.Bool.{Bool}
+use mathlib.Core.List.{List, [], _∷_, _++_}
+use Prim.Native.Nat.{ℕ, zero, suc, _+_, _-_, _*_, _/_, _%_, _^_, _≤_, _<_}
+use native.Mathlib.Nat.{zero-add, suc-add, le-of-suc-le-suc, not-suc-le-zero}
+use native.Mathlib.Omega.{arith}
+use lib.ListN.{length, getD, take, drop, length-drop}
+use lib.Seq.{drop-cons, drop-drop, take-add, take-at, drop-at, take-nil, take-take, length-take-le, sets}
+use Rattle.laws.specs.Bits.{bitsOf, valueOf, unpack}
+use Rattle.laws.specs.Wrote.{Wrote}
+use Rattle.laws.proofs.BitLaws.{length-bits, value-bits, bits-append, bits-join}
+use Rattle.laws.proofs.ByteLaws.{unpack-drop}
+use Rattle.laws.proofs.ListLaws.{sets-out}
+use Rattle.bits.specs.Text7.{unsevens}
+use Rattle.bits.proofs.Text7Laws.{length-unsevens}
+
+-- ---- bytes side by side
+
+-- one byte
+pub byte-at : (s : List ℕ) (i : ℕ) → i < length s → bitsOf 8 (getD s i 0) ≡ take 8 (drop (i * 8) (unpack s))
+unfolding unpack
+byte-at s i h = rw (← unpack-drop i s, drop-cons s i 0 h) (sym (take-at (bitsOf 8 (getD s i 0)) (unpack (drop (suc i) s)) 8 (length-bits 8 (getD s i 0))))
+
+-- m bytes in front of n
+pub bytes-join : (s : List ℕ) (i m n a : ℕ) {b : ℕ} → bitsOf (m * 8) a ≡ take (m * 8) (drop (i * 8) (unpack s))
+    → bitsOf (n * 8) b ≡ take (n * 8) (drop ((i + m) * 8) (unpack s)) → b < 2 ^ (n * 8)
+    → bitsOf (m * 8 + n * 8) (a * 2 ^ (n * 8) + b) ≡ take (m * 8 + n * 8) (drop (i * 8) (unpack s))
+bytes-join s i m n a e f h =
+    let p : (i + m) * 8 ≡ i * 8 + m * 8 = omega arith in
+    rw (bits-join (m * 8) (n * 8) a h, e, f, p, ← drop-drop (m * 8) (i * 8) (unpack s), take-add (m * 8) (n * 8) (drop (i * 8) (unpack s)))
+
+-- ---- a part of a word
+
+-- k bits of a number, behind m and in front of j
+pub mid-bits : (m k j v : ℕ) → take k (drop m (bitsOf (m + (k + j)) v)) ≡ bitsOf k (v / 2 ^ j)
+mid-bits m k j v =
+    rw (bits-append m (k + j) v, drop-at (bitsOf m (v / 2 ^ (k + j))) (bitsOf (k + j) v) m (length-bits m (v / 2 ^ (k + j))), bits-append k j v)
+    (take-at (bitsOf k (v / 2 ^ j)) (bitsOf j v) k (length-bits k (v / 2 ^ j)))
+
+-- a part of a front
+front-part : (o n m : ℕ) (l : List Bool) → o + n ≤ m → take n (drop o (take m l)) ≡ take n (drop o l)
+front-part zero n m l h = take-take n m l (omega arith)
+front-part (suc o) n m [] h = ap (λ (l : List Bool). take n (drop (suc o) l)) (take-nil m)
+front-part (suc o) n zero (x ∷ l) h = absurd (omega arith)
+front-part (suc o) n (suc m) (x ∷ l) h = front-part o n m l (omega arith)
+
+-- n bits from a position on, in the word of the eight bytes that it stands in
+pub part-of : (b : List Bool) (at n w : ℕ) → at % 8 + n ≤ 64 → bitsOf 64 w ≡ take 64 (drop (at / 8 * 8) b)
+    → bitsOf n (w / 2 ^ (64 - (at % 8 + n))) ≡ take n (drop at b)
+part-of b at n w h e =
+    let o = at % 8 in
+    let j = 64 - (o + n) in
+    let all : 64 ≡ o + (n + j) = omega arith in
+    let p : at / 8 * 8 + o ≡ at = omega arith in
+    sym (mid-bits o n j w) ∙ ap (λ (x : ℕ). take n (drop o (bitsOf x w))) (sym all) ∙ ap (λ (l : List Bool). take n (drop o l)) e
+    ∙ front-part o n 64 (drop (at / 8 * 8) b) h ∙ rw (drop-drop o (at / 8 * 8) b, p)
+
+-- ---- numbers of seven bits
+
+pub unsevens-add : (m n : ℕ) (b : List Bool) → unsevens (m + n) b ≡ unsevens m b ++ unsevens n (drop (m * 7) b)
+unfolding unsevens
+unsevens-add zero n b = rw zero-add
+unsevens-add (suc m) n b =
+    let e : suc m * 7 ≡ 7 + m * 7 = omega arith in
+    rw (suc-add, e, ← drop-drop (m * 7) 7 b) (ap (λ (l : List ℕ). valueOf (take 7 b) ∷ l) (unsevens-add m n (drop 7 b)))
+
+-- only k times seven bits count
+pub unsevens-front : (k : ℕ) (b : List Bool) → k * 7 ≤ length b → unsevens k (take (k * 7) b) ≡ unsevens k b
+unfolding unsevens
+unsevens-front zero b h = refl
+unsevens-front (suc k) b h =
+    let e : suc k * 7 ≡ 7 + k * 7 = omega arith in
+    let l : length (take 7 b) ≡ 7 = length-take-le 7 b (omega arith) in
+    rw (e, take-add 7 (k * 7) b, take-at (take 7 b) (take (k * 7) (drop 7 b)) 7 l, drop-at (take 7 b) (take (k * 7) (drop 7 b)) 7 l)
+    (ap (λ (t : List ℕ). valueOf (take 7 b) ∷ t) (unsevens-front k (drop 7 b) (omega (arith, length-drop 7 b))))
+
+-- the number i of eight in a word
+pub seven-in : (i j v : ℕ) → i + suc j ≡ 8 → valueOf (take 7 (drop (i * 7) (bitsOf 56 v))) ≡ v / 2 ^ (j * 7) % 128
+seven-in i j v h =
+    let e : 56 ≡ i * 7 + (7 + j * 7) = omega arith in
+    ap (λ (x : ℕ). valueOf (take 7 (drop (i * 7) (bitsOf x v)))) e ∙ ap valueOf (mid-bits (i * 7) 7 (j * 7) v) ∙ value-bits 7 (v / 2 ^ (j * 7))
+
+-- where there is no room nothing is written
+pub unwritten : (out : List ℕ) (to n : ℕ) (b : List Bool) → length out ≤ to → Wrote out to (unsevens n b) out (to + n)
+unwritten out to n b h = record { stored = sym (sets-out out to (unsevens n b) h); next-is = omega (arith, length-unsevens n b) }
