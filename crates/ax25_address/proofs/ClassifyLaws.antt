@@ -1,17 +1,19 @@
 -- The tests of the type: the first two bytes as one test, and the scans step by step.
 -- Assumes nothing.
-use mathlib.Core.Path.{_≡_}
+use mathlib.Core.Path.{_≡_, ap₂, _∙_}
 use mathlib.Core.Bool.{Bool, true, false, _&&_, _||_, and-assoc}
 use mathlib.Core.List.{List}
-use Prim.Native.Nat.{ℕ, _+_, _≤_, _<_}
+use Prim.Native.Nat.{ℕ, _+_, _/_, _≤_, _<_}
 use native.Mathlib.Numerals.{add-one}
 use native.Mathlib.Omega.{arith}
 use lib.ListN.{length, getD, drop, drop-of-length-le}
 use lib.Seq.{drop-cons}
+use lib.Bits.{bitOr, or-shr}
 use lib.Dec.{leb, eqb}
+use borrow.Author.Tests.{le-leb, lt-leb}
 use Rattle.laws.specs.Pick.{pick}
 use Rattle.laws.specs.Text.{isDigit}
-use Rattle.laws.proofs.Cases.{by-test}
+use Rattle.laws.proofs.Cases.{by-test, by-le}
 use Rattle.ax25_address.specs.Classify.{anyHigh, oneOf, marksAt, isPosition, isTimestamped, stopsAt, endsAt, tally, scanThird}
 
 -- ---- with an answer r for the first two bytes
@@ -25,6 +27,21 @@ module _ (d : List ℕ) {r : Bool} where
       → isTimestamped d ≡ (leb 27 (length d) && (r && (eqb (getD d 7 0) 0x68 && marksAt 8 d)))
   unfolding isTimestamped
   timestamped-opens e = rw (e, and-assoc)
+
+-- ---- one bit of two bytes together
+
+pub or-high : (a b : ℕ) → a < 256 → b < 256 → leb 0x80 (bitOr a b) ≡ (leb 0x80 a || leb 0x80 b)
+or-high a b ha hb =
+    by-le 0x80 a
+    (λ p. by-le 0x80 b
+    (λ q. let t = top 1 1 (omega arith) (omega arith) in rw (le-leb 0x80 a p, le-leb 0x80 (bitOr a b) (omega (arith, t))))
+    (λ q. let t = top 1 0 (omega arith) (omega arith) in rw (le-leb 0x80 a p, le-leb 0x80 (bitOr a b) (omega (arith, t)))))
+    (λ p. by-le 0x80 b
+    (λ q. let t = top 0 1 (omega arith) (omega arith) in rw (lt-leb 0x80 a p, le-leb 0x80 b q, le-leb 0x80 (bitOr a b) (omega (arith, t))))
+    (λ q. let t = top 0 0 (omega arith) (omega arith) in rw (lt-leb 0x80 a p, lt-leb 0x80 b q, lt-leb 0x80 (bitOr a b) (omega (arith, t)))))
+  where
+    top : (x y : ℕ) → a / 0x80 ≡ x → b / 0x80 ≡ y → bitOr a b / 0x80 ≡ bitOr x y
+    top x y e f = or-shr a b 7 ∙ ap₂ bitOr e f
 
 -- ---- from a place on
 

@@ -56,14 +56,13 @@ fn is_digit(x: u8) -> bool
 pub fn any_high(d: &[u8]) -> bool
     ensures { λ r. ⌜ r ≡ anyHigh (now (d .entry)) ⌝ }
 {
+    let mut all: u8 = 0;
     let mut i = 0;
     while i < d.len() {
-        if 0x80 <= d[i] {
-            return true;
-        }
+        all |= d[i];
         i += 1;
     }
-    false
+    0x80 <= all
 }
 
 // One of two bytes, and a digit behind it.

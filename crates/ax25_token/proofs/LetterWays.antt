@@ -1,6 +1,6 @@
 -- The ways through `letters`, one law for each.
 -- Assumes nothing.
-use mathlib.Core.Path.{_≡_, ap, _∙_}
+use mathlib.Core.Path.{_≡_, refl, ap, _∙_}
 use mathlib.Core.Bool.{Bool, true, false}
 use mathlib.Core.List.{List, [], _∷_}
 use Prim.Native.Nat.{ℕ, _+_, _-_, _≤_, _<_}
@@ -29,8 +29,9 @@ module _ (b : List Bool) (at n : ℕ) (strict : Bool) (c : Call) where
     short e r q = onto-nothing b c n _ r (letters-short strict n (drop at b) any (told-short b at 6 e)) q
 
     module _ (v p : ℕ) (e : takenAt b at 6 ≡ Bits v p) where
-      pub blank : v ≡ 0 → Letters (record { token = Next p; call = c })
-      blank h = onto-stop b c n p _ (letters-blank strict n (drop at b) any v (drop p b) (told-bits b at 6 v p e) h)
+      pub blank : v ≡ 0 → (r : Decoded) → Onto b c 0 (readLetters strict 0 (drop p b)) r → Letters r
+      blank h r i =
+          (i .0 ∙ rw (letters-blank strict n (drop at b) any v (drop p b) (told-bits b at 6 v p e) h, letters-all strict 0 (drop p b) refl), omega (arith, i .1))
 
       pub more : (v ≡ 0 → ⊥) → v < 37 → (d : Call) → d ≡ pushed c (getD callAlphabet v 0)
           → (r : Decoded) → Onto b d (n - 1) (readLetters strict (n - 1) (drop p b)) r → Letters r

@@ -82,13 +82,13 @@ pub fn push(c: Call, b: u8) -> Call
     Call { bytes, len: n + 1 }
 }
 
-// The letter of a code.
-fn letter(v: u64) -> u8
-    requires { ⌜ v < 37 ⌝ }
+// The letter of a code. The alphabet is lent: each use of the constant would copy it.
+fn letter(alphabet: &[u8; 37], v: u64) -> u8
+    requires { ⌜ (now alphabet ≡ callAlphabet) × (v < 37) ⌝ }
     ensures { λ r. ⌜ r ≡ getD callAlphabet v 0 ⌝ }
 {
     let i = v as usize;
-    CALL_ALPHABET[i]
+    alphabet[i]
 }
 
 // At most n letters, up to a blank, behind what the call holds. A code that is no letter ends a strict reading; another skips it.
@@ -96,28 +96,34 @@ fn letters(s: &[u8], at: usize, n: usize, strict: bool, c: Call) -> Decoded
     requires { ⌜ (length (now s) < 2 ^ 60) × (c .len + n ≤ 16) ⌝ }
     ensures { λ r. ⌜ (callOf (unpack (now (s .entry))) r ≡ behindCall c (readLetters strict n (drop at (unpack (now (s .entry)))))) × (r .call .len ≤ c .len + n) ⌝ }
 {
-    if n == 0 {
-        return Decoded {
-            token: Token::Next(at),
-            call: c,
+    let alphabet = &CALL_ALPHABET;
+    let mut bytes = c.bytes;
+    let mut len = c.len;
+    let mut p = at;
+    let mut left = n;
+    while 0 < left {
+        let Taken::Bits(v, q) = take(s, p, 6) else {
+            return nothing();
         };
+        p = q;
+        left -= 1;
+        if v == 0 {
+            left = 0;
+            continue;
+        }
+        if v < 37 {
+            bytes[len] = letter(alphabet, v);
+            len += 1;
+            continue;
+        }
+        if strict {
+            return nothing();
+        }
     }
-    let Taken::Bits(v, p) = take(s, at, 6) else {
-        return nothing();
-    };
-    if v == 0 {
-        return Decoded {
-            token: Token::Next(p),
-            call: c,
-        };
+    Decoded {
+        token: Token::Next(p),
+        call: Call { bytes, len },
     }
-    if v < 37 {
-        return letters(s, p, n - 1, strict, push(c, letter(v)));
-    }
-    if strict {
-        return nothing();
-    }
-    letters(s, p, n - 1, strict, c)
 }
 
 // The call with two digits.
@@ -244,7 +250,7 @@ fn first(i: u64) -> Call
         bytes: [32u8; 16],
         len: 0,
     };
-    push(c, letter(i))
+    push(c, letter(&CALL_ALPHABET, i))
 }
 
 // The call AP.

@@ -1,18 +1,16 @@
 -- `ax25_token::first` meets its contract.
 -- Assumes nothing.
-use mathlib.Core.Path.{ap, _∙_}
+use mathlib.Core.Path.{refl, ap, _∙_}
 use native.Mathlib.Omega.{arith}
 use Rattle.ax25_token.specs.Call.{empty, pushed}
+use Rattle.ax25_token.specs.Tables.{callAlphabet}
 use borrow.Author.Needs.{needs}
 use Rattle.ax25_token.proofs.first.Statement.{statement}
 use Rattle.ax25_token.proofs.first.Tie as tie
-use Rattle.ax25_token.proofs.first.Reads as reads
-use Rattle.ax25_token.proofs.first.Lts as lts
-use Rattle.ax25_token.proofs.letter.Reads as letter-reads
-use Rattle.ax25_token.proofs.push.Reads as push-reads
 
 letter-requires : tie.Need-letter-requires
-letter-requires c κs = search needs
+unfolding callAlphabet
+letter-requires c κs = (refl, search needs)
 
 push-requires : tie.Need-push-requires
 push-requires c κs = search needs

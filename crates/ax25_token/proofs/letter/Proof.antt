@@ -1,19 +1,14 @@
--- `ax25_token::letter` meets its contract: the table is the alphabet.
+-- `ax25_token::letter` meets its contract.
 -- Assumes nothing.
 use borrow.Author.Needs.{needs}
-use mathlib.Core.Path.{refl}
-use Rattle.ax25_token.specs.Tables.{callAlphabet}
 use Rattle.ax25_token.proofs.letter.Statement.{statement}
 use Rattle.ax25_token.proofs.letter.Tie as tie
-use Rattle.ax25_token.proofs.letter.Reads as reads
-use Rattle.ax25_token.proofs.letter.Lts as lts
 
-array-read-result : tie.Need-array-read-result
-array-read-result c = search needs
+element-copy-out-result : tie.Need-element-copy-out-result
+element-copy-out-result c = search needs
 
 returns : tie.Need-returns
-unfolding callAlphabet
-returns c = refl
+returns c = rw (c .before .pre .0)
 
 pub letter-spec : {M : Type 1} → statement M
-letter-spec = tie.close (tie.spec array-read-result returns)
+letter-spec = tie.close (tie.spec element-copy-out-result returns)
