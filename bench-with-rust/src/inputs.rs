@@ -18,7 +18,7 @@ impl Random {
     /// So many bytes from a range of values.
     fn between(&mut self, low: u8, high: u8, n: usize) -> Vec<u8> {
         let width = u64::from(high - low) + 1;
-        (0..n).map(|_| low + ((self.number() >> 32) * width >> 32) as u8).collect()
+        (0..n).map(|_| low + (((self.number() >> 32) * width) >> 32) as u8).collect()
     }
 
     /// Any bytes.

@@ -47,16 +47,22 @@ pub fn position(table: &mut Table) {
 
 /// Some data both ways.
 fn coding(table: &mut Table, kind: &str, command: Command, data: Vec<u8>, bar: Option<f64>) {
-    let message: Rc<[u8]> = kiss::encode(command, &data).expect("the input is accepted").bytes.into();
-    decoding(table, kind, data.len(), Rc::clone(&message), bar);
-    let (name, data): (_, Rc<[u8]>) = (format!("encode {kind}"), data.into());
-    if !table.wants(&name, data.len()) {
+    let (bytes, data): (_, Rc<[u8]>) = (data.len(), data.into());
+    let message = kiss::encode(command, &data).expect("the input is accepted").bytes;
+    encoding(table, kind, command, data, &message, bar);
+    decoding(table, kind, bytes, message.into(), bar);
+}
+
+/// Data that is coded to a message.
+fn encoding(table: &mut Table, kind: &str, command: Command, data: Rc<[u8]>, message: &[u8], bar: Option<f64>) {
+    let (name, bytes) = (format!("encode {kind}"), data.len());
+    if !table.wants(&name, bytes) {
         return;
     }
     let mut out = vec![0; STORE];
     let (n, _) = xara::encode(command.byte(), &data, &mut out).expect("the input is accepted");
-    same(&name, &message, &out[..n]);
-    let (bytes, theirs) = (data.len(), Rc::clone(&data));
+    same(&name, message, &out[..n]);
+    let theirs = Rc::clone(&data);
     let source = move || kiss::encode(command, black_box(&theirs));
     table.add(&name, bytes, bar, source, move || xara::encode(command.byte(), black_box(&data), black_box(&mut out)));
 }

@@ -3,8 +3,8 @@
 use std::hint::black_box;
 use std::time::{Duration, Instant};
 
-/// The whole table is gone through so often, so that a slow spell of the machine does not fall on one row alone.
-const PASSES: usize = 12;
+/// The whole table is gone through again and again for so long, so that no slow spell of the machine falls on one row alone.
+const TIME: Duration = Duration::from_secs(12);
 /// Rounds of each side in a pass, in turn; the best of all counts.
 const ROUNDS: usize = 12;
 /// A round makes as many calls as fit into this.
@@ -103,7 +103,8 @@ impl Table {
 
     /// Times all rows.
     pub fn run(&mut self) {
-        for _ in 0..PASSES {
+        let began = Instant::now();
+        while began.elapsed() < TIME {
             self.rows.iter_mut().for_each(pass);
         }
     }
