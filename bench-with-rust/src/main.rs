@@ -23,6 +23,10 @@ fn main() -> ExitCode {
     rows::fragments(&mut table);
     rows::frame(&mut table);
     rows::push(&mut table);
+    if table.is_empty() {
+        eprintln!("no row's name and bytes hold the pattern");
+        return ExitCode::from(2);
+    }
     table.run();
     table.print();
     ExitCode::SUCCESS

@@ -83,6 +83,11 @@ impl Table {
         Table { pattern, rows: Vec::new() }
     }
 
+    /// Whether the pattern selects no row at all.
+    pub fn is_empty(&self) -> bool {
+        self.rows.is_empty()
+    }
+
     /// Whether the pattern selects a row.
     pub fn wants(&self, name: &str, bytes: usize) -> bool {
         format!("{name} {bytes}").contains(&self.pattern)
