@@ -6,12 +6,8 @@
 #define SIZE(type) printf(#type " %zu %zu\n", sizeof(type), _Alignof(type))
 #define PLACE(type, field) printf(#type "." #field " %zu %zu\n", offsetof(type, field), sizeof(((type *)0)->field))
 
-int main(void)
+static void arguments(void)
 {
-    SIZE(XaraAnswer);
-    PLACE(XaraAnswer, ok);
-    PLACE(XaraAnswer, refusal);
-    PLACE(XaraAnswer, value);
     SIZE(XaraControl);
     PLACE(XaraControl, reply);
     PLACE(XaraControl, compressed);
@@ -22,6 +18,14 @@ int main(void)
     PLACE(XaraReceiver, count);
     PLACE(XaraReceiver, crc_mask);
     PLACE(XaraReceiver, overflow);
+}
+
+static void answers(void)
+{
+    SIZE(XaraAnswer);
+    PLACE(XaraAnswer, ok);
+    PLACE(XaraAnswer, refusal);
+    PLACE(XaraAnswer, value);
     SIZE(XaraFresh);
     PLACE(XaraFresh, ok);
     PLACE(XaraFresh, refusal);
@@ -47,5 +51,11 @@ int main(void)
     PLACE(XaraDecoded, refusal);
     PLACE(XaraDecoded, command);
     PLACE(XaraDecoded, length);
+}
+
+int main(void)
+{
+    arguments();
+    answers();
     return 0;
 }

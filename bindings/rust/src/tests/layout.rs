@@ -30,9 +30,9 @@ macro_rules! lines {
 
 fn ours() -> String {
     [
-        lines!(XaraAnswer: ok, refusal, value),
         lines!(XaraControl: reply, compressed, hint),
         lines!(XaraReceiver: held, nfrag, count, crc_mask, overflow),
+        lines!(XaraAnswer: ok, refusal, value),
         lines!(XaraFresh: ok, refusal, receiver),
         lines!(XaraPushed: kind, refusal, length, receiver),
         lines!(XaraEncoded: ok, refusal, aprs_type, length),
