@@ -14,7 +14,7 @@ use xara_phy::hf::level::Record;
 const SIZES: [usize; 3] = [60, 500, 4999];
 const LONGEST: usize = 4999;
 /// The most bytes that a message decodes to.
-const MOST_DECODED: usize = 45_762;
+const MOST_DECODED: usize = 45_764;
 /// The receiver's store.
 const STORE: usize = 5000;
 /// Text and generic 7 bit of 4,999 bytes; the position report; crc, fragments, frame and push.

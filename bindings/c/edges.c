@@ -157,6 +157,40 @@ static void coding_rooms(void)
     sender_rooms(message, a.length, 64, XARA_MASK_FM);
 }
 
+/* So many bits of a value behind the bits that are there. */
+static size_t push(uint8_t *out, size_t at, unsigned value, unsigned width)
+{
+    for (unsigned i = 0; i < width; i++, at++)
+        out[at / 8] |= (uint8_t)((value >> (width - 1 - i) & 1) << (7 - at % 8));
+    return at;
+}
+
+/* The message that decodes to the most bytes: a third party's, a text of the longest word behind calls of 6 bits, one of 9. */
+static void longest(uint8_t *message)
+{
+    static const unsigned head[][2] = {{0x5F, 8}, {0, 8},  {47, 6}, {47, 6}, {9, 4}, {6, 3},
+                                       {303, 9},  {47, 6}, {47, 6}, {2, 2},  {47, 6}};
+    size_t at = 0;
+    memset(message, 0, XARA_MAX_MESSAGE);
+    for (size_t i = 0; i < sizeof head / sizeof head[0]; i++)
+        at = push(message, at, head[i][0], head[i][1]);
+    while (at + 7 <= 8 * XARA_MAX_MESSAGE)
+        at = push(message, at, 3, 7);
+}
+
+static void longest_rooms(void)
+{
+    uint8_t *message = filled(XARA_MAX_MESSAGE), *out = filled(XARA_MAX_DECODED), *small = filled(XARA_MAX_DECODED - 1);
+    longest(message);
+    XaraDecoded a = xara_decode(message, XARA_MAX_MESSAGE, small, XARA_MAX_DECODED - 1);
+    expect(a.refusal == XARA_REFUSAL_OUTPUT && untouched(small, XARA_MAX_DECODED - 1), "longest", 0);
+    a = xara_decode(message, XARA_MAX_MESSAGE, out, XARA_MAX_DECODED);
+    expect(a.ok && a.command == XARA_AX25_LONG && a.length == XARA_MAX_DECODED, "longest", 1);
+    free(message);
+    free(out);
+    free(small);
+}
+
 /* Frames cut short anywhere, to the coder and the summary. */
 static void short_frames(void)
 {
@@ -415,6 +449,7 @@ static void frame_lengths(void)
 int main(void)
 {
     coding_rooms();
+    longest_rooms();
     short_frames();
     crc_lengths();
     nothing();

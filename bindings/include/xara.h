@@ -36,7 +36,7 @@ extern "C" {
 /* Sizes, in bytes. An output with the most bytes is never refused as too short. */
 #define XARA_MAX_DATA 4999     /* data to code */
 #define XARA_MAX_MESSAGE 5000  /* a message: the output of xara_encode, the input of xara_fragment and xara_decode */
-#define XARA_MAX_DECODED 45762 /* decoded data: the output of xara_decode */
+#define XARA_MAX_DECODED 45764 /* decoded data: the output of xara_decode */
 #define XARA_STORE 5000        /* a receiver's store: exactly so many */
 #define XARA_MIN_FIELD 3       /* the field: a fragment has at most field bytes */
 #define XARA_MAX_FIELD 512

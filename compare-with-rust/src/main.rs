@@ -50,6 +50,7 @@ fn run(time: Duration, seed: u64) -> Tally {
     let wrong = std::env::var_os(WRONG).is_some();
     calls::all_counts(&mut tally);
     histories::all_stores(&mut r, &mut tally);
+    codings::longest(&mut r, &mut tally);
     let mut field = 0;
     while began.elapsed() < time {
         calls::fragments(field, wrong, &mut r, &mut tally);

@@ -57,7 +57,7 @@ pub const MAX_DATA: usize = 4999;
 /// The most bytes of a message.
 pub const MAX_MESSAGE: usize = 5000;
 /// The most bytes that a message decodes to.
-pub const MAX_DECODED: usize = 45_762;
+pub const MAX_DECODED: usize = 45_764;
 
 /// The CRC-16/GENIBUS of any bytes.
 ///

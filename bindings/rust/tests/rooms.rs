@@ -89,11 +89,12 @@ fn decode_the_longest() {
     assert_eq!(xara::Decoder::new().decode(&message).map(|(_, data)| data.len()), Ok(xara::MAX_DECODED));
 }
 
-/// A third party's message, all calls in it one of 6 bits, whose text is the longest word of the dictionary again and again.
+/// A third party's message whose text is the longest word of the dictionary again and again, behind calls that take 6 bits each,
+/// but for one of 9 bits, WIDE2-11: with it a single bit is left over.
 fn longest() -> Vec<u8> {
-    let call = "101111";
-    let addresses = format!("{:08b}{}1001", 0, call.repeat(2));
-    let mut bits = format!("{addresses}110{}10{call}", call.repeat(3));
+    let (call, wide) = ("101111", "100101111");
+    let addresses = format!("{:08b}{call}{call}1001", 0);
+    let mut bits = format!("{addresses}110{wide}{call}{call}10{call}");
     while bits.len() + 7 <= 8 * (xara::MAX_MESSAGE - 1) {
         bits += "0000011";
     }
