@@ -113,6 +113,7 @@ pub fn frames(field: usize, r: &mut Random, tally: &mut Tally) {
     frame(field, xara::Control { reply: r.byte(), compressed: r.byte(), hint: r.byte() }, r, tally);
 }
 
+/// Frames of this field with drawn data, marker and room.
 fn frame(field: usize, control: xara::Control, r: &mut Random, tally: &mut Tally) {
     let near = field.min(512);
     let n = [0, 1, near / 2, near.saturating_sub(2), near.saturating_sub(1), near, near, near + 1, r.below(near + 1)];
@@ -120,14 +121,38 @@ fn frame(field: usize, control: xara::Control, r: &mut Random, tally: &mut Tally
     let data = if r.below(8) == 0 { vec![0x14; n] } else { r.bytes(n) };
     let marker = if r.below(8) == 0 { 0x14 } else { r.byte() };
     let room = [0, near + 2, near + 3, near + 3, near + 4, near + r.below(40)][r.below(6)];
-    let mut out = Lent::new(r, room);
-    let expected = answers::framed(field, &data, control.reply, control.compressed != 0, control.hint, marker);
+    framed(field, &data, control, marker, Lent::new(r, room), tally);
+}
+
+fn framed(field: usize, data: &[u8], control: xara::Control, marker: u8, mut out: Lent, tally: &mut Tally) {
+    let expected = answers::framed(field, data, control.reply, control.compressed != 0, control.hint, marker);
     let (answer, bytes) = out.after(expected.as_ref().map(Vec::as_slice).map_err(|&refusal| refusal));
-    let ours = xara::frame(field, &data, control, marker, out.part());
+    let ours = xara::frame(field, data, control, marker, out.part());
     tally.compare(Kind::Frame, (answer, &bytes), (ours, &out.bytes), || {
         let xara::Control { reply, compressed, hint } = control;
         let compressed = u8::from(compressed != 0);
-        let data = to_hex(&data);
+        let data = to_hex(data);
         format!("frame {field} {reply} {compressed} {hint} {marker:02X} {data}\n{}", out.told())
     });
+}
+
+/// A fragment and its frame, with outputs of every length from 0 to one more than the answer's.
+pub fn every_room(field: usize, r: &mut Random, tally: &mut Tally) {
+    let mask = r.one_of(&MASKS);
+    let most = most(mask) * field.saturating_sub(1);
+    let total = 1 + r.below(most.clamp(1, MAX_MESSAGE));
+    let mut message = r.bytes(total);
+    message[0] &= 0x7F;
+    let split = answers::sent(&message, field, mask, answers::most(mask));
+    let k = r.below(split.as_ref().map_or(1, Vec::len));
+    let expected = split.as_ref().map(|list| &list[k][..]).map_err(|&refusal| refusal);
+    for room in 0..=expected.map_or(field, <[u8]>::len) + 1 {
+        fragment(&message, field, mask, k, expected, Lent::new(r, room), tally);
+    }
+    let control = xara::Control { reply: r.below(4) as u8, compressed: r.byte(), hint: r.below(8) as u8 };
+    for room in 0..=field + 4 {
+        framed(field, expected.unwrap_or(&message[..1]), control, 0x01, Lent::new(r, room), tally);
+    }
+    tally.every_room();
+    tally.every_room();
 }

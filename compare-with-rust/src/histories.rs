@@ -1,8 +1,9 @@
 //! Histories of pushes, joins and resets, and states that a caller makes up.
 
 use crate::receiver::Pair;
+use crate::rules::{self, Call};
 use crate::tally::{Kind, Tally};
-use crate::xara::{self, Heard};
+use crate::xara;
 use answers::MASKS;
 use answers::MAX_MESSAGE;
 use answers::random::Random;
@@ -207,34 +208,73 @@ fn message(length: usize, r: &mut Random) -> Vec<u8> {
     bytes
 }
 
-/// A state, a store and a call that are refused with 17, 9 or 8: nothing changes.
+/// A state and a store that a caller made up, and a few calls on them. What is refused changes nothing, all else goes by
+/// document 01's rules.
 pub fn made_up(r: &mut Random, tally: &mut Tally) {
-    let held = [0, 1, 4_999, 5_000, 5_001, usize::MAX, r.below(5_001)][r.below(7)];
-    let nfrag = [0, 1, 254, 255, 256, usize::MAX, r.below(256)][r.below(7)];
-    let crc_mask = if r.below(2) == 0 { r.byte() } else { r.one_of(&MASKS) };
+    let held = [0, 1, 4_999, 5_000, r.below(5_001), r.below(5_001), 5_001, usize::MAX][r.below(8)];
+    let nfrag = [0, 1, 254, 255, r.below(256), r.below(256), 256, usize::MAX][r.below(8)];
+    let crc_mask = if r.below(8) == 0 { r.byte() } else { r.one_of(&MASKS) };
     let overflow = if r.below(2) == 0 { 0 } else { r.byte() };
     let state = xara::Receiver { held, nfrag, count: r.byte(), crc_mask, overflow };
-    let size = [5_000, 5_000, 5_000, 0, 4_999, 5_001, r.below(6_000)][r.below(7)];
-    let field = [3, 512, 2, 513, usize::MAX][r.below(5)];
-    let pushed = r.below(2) == 0;
-    let Some(refusal) = refusal(state, size, pushed.then_some(field)) else { return };
-    let expected = r.bytes(size);
-    let mut store = expected.clone();
-    let f = r.bytes(8);
-    let (heard, after) =
-        if pushed { state.push(&mut store, &f, field) } else { state.join(&mut store, &f, r.below(10)) };
-    tally.compare(Kind::MadeUp, ((Heard::Refused(refusal), state), &expected), ((heard, after), &store), || {
-        format!("{state:?}\nstore of {size}, push {pushed}, field {field}")
-    });
+    let size = if r.below(8) == 0 { [0, 4_999, 5_001, r.below(6_000)][r.below(4)] } else { MAX_MESSAGE };
+    let mut pair = MadeUp::new(state, r.bytes(size));
+    for _ in 0..4 {
+        let field =
+            if r.below(8) == 0 { r.one_of(&[0, 1, 2]).into() } else { [3, 5, 20, 512, 513, usize::MAX][r.below(6)] };
+        let length = if r.below(4) == 0 { r.below(20) } else { field.min(512) + 3 };
+        let f = r.bytes(length);
+        if r.below(2) == 0 {
+            pair.call(Call::Push(&f, field), tally);
+        } else {
+            pair.call(Call::Join(&f, r.below(length + 2)), tally);
+        }
+        if r.below(8) == 0 {
+            pair.reset(tally);
+        }
+    }
 }
 
-/// Document 01's order: 17, 9, 8.
-fn refusal(state: xara::Receiver, size: usize, field: Option<usize>) -> Option<u8> {
-    if size != MAX_MESSAGE || state.held > MAX_MESSAGE || state.nfrag > 255 {
-        return Some(17);
+/// Every length of a store to 5,001: all but 5,000 are refused with 17.
+pub fn all_stores(r: &mut Random, tally: &mut Tally) {
+    for size in 0..=MAX_MESSAGE + 1 {
+        let state = xara::Receiver { held: 0, nfrag: 0, count: 0, crc_mask: r.one_of(&MASKS), overflow: 0 };
+        let mut pair = MadeUp::new(state, vec![r.byte(); size]);
+        pair.call(Call::Join(&[0x80, 0x00, 0x41], 3), tally);
+        pair.call(Call::Push(&[0x41, 0x14, 0x00, 0x00, 0x00, 0x00], 3), tally);
     }
-    if !MASKS.contains(&state.crc_mask) {
-        return Some(9);
+}
+
+/// Our receiver from a state and a store that a caller made up, and both as the rules have them.
+struct MadeUp {
+    ours: xara::Receiver,
+    store: Vec<u8>,
+    state: xara::Receiver,
+    expected: Vec<u8>,
+}
+
+impl MadeUp {
+    fn new(state: xara::Receiver, store: Vec<u8>) -> Self {
+        MadeUp { ours: state, expected: store.clone(), store, state }
     }
-    field.filter(|field| !answers::FIELDS.contains(field)).map(|_| 8)
+
+    fn call(&mut self, call: Call, tally: &mut Tally) {
+        let before = self.ours;
+        let (answer, state) = rules::answer(self.state, &mut self.expected, call);
+        let (heard, after) = match call {
+            Call::Push(frame, field) => before.push(&mut self.store, frame, field),
+            Call::Join(f, n) => before.join(&mut self.store, f, n),
+        };
+        (self.ours, self.state) = (after, state);
+        tally.made_up(answer);
+        tally.compare(Kind::MadeUp, ((answer, state), &self.expected), ((heard, after), &self.store), || {
+            format!("{before:?}\nstore of {}, {call:02X?}", self.store.len())
+        });
+    }
+
+    fn reset(&mut self, tally: &mut Tally) {
+        let before = self.ours;
+        self.state = xara::Receiver { held: 0, nfrag: 0, overflow: 0, ..before };
+        self.ours = before.reset();
+        tally.compare(Kind::Reset, (self.state, &self.expected), (self.ours, &self.store), || format!("{before:?}"));
+    }
 }

@@ -1,13 +1,11 @@
 //! Journeys: data is coded, cut into fragments, framed, heard or not, joined and decoded, on each side by its own calls.
 
+use crate::codings::MOST_DECODED;
 use crate::tally::{Kind, Tally};
 use crate::xara::{self, Heard};
 use answers::hex::to_hex;
 use answers::random::Random;
 use answers::{Answer, FIELDS, MASKS, MAX_MESSAGE, frames, most};
-
-/// The most bytes that a message decodes to.
-const MOST_DECODED: usize = 45_762;
 
 /// What happens to a frame on the air.
 #[derive(Clone, Copy, Debug)]

@@ -6,6 +6,7 @@ mod histories;
 mod journeys;
 mod lent;
 mod receiver;
+mod rules;
 mod tally;
 mod xara;
 
@@ -48,10 +49,14 @@ fn run(time: Duration, seed: u64) -> Tally {
     let mut tally = Tally::default();
     let wrong = std::env::var_os(WRONG).is_some();
     calls::all_counts(&mut tally);
+    histories::all_stores(&mut r, &mut tally);
+    codings::longest(&mut r, &mut tally);
     let mut field = 0;
     while began.elapsed() < time {
         calls::fragments(field, wrong, &mut r, &mut tally);
         calls::frames(field, &mut r, &mut tally);
+        calls::every_room(field, &mut r, &mut tally);
+        codings::every_room(&mut r, &mut tally);
         field = (field + STRIDE) % FIELDS;
         for _ in 0..10 {
             calls::crc(&mut r, &mut tally);

@@ -1,12 +1,10 @@
 //! One receiver of ours with its store, and the source's receiver beside it. Each call goes to both.
 
+use crate::rules::{fragment_length, more, place, tail};
 use crate::tally::{Kind, Tally};
 use crate::xara::{self, Heard};
 use answers::hex::to_hex;
-use answers::{Answer, FIELDS, MAX_MESSAGE};
-
-/// The most fragments of a message that is heard.
-const MOST_FRAGMENTS: usize = 255;
+use answers::{Answer, FIELDS};
 
 enum Call {
     Push(usize, Vec<u8>),
@@ -120,38 +118,4 @@ impl Pair {
         }
         text
     }
-}
-
-/// "Fragment length is field where the control byte's bit 0 is set, else the place of the last 14 in the field, else 0."
-/// A frame of another length has no fragment.
-fn fragment_length(frame: &[u8], field: usize) -> usize {
-    if frame.len() != field + 3 {
-        return 0;
-    }
-    if frame[field] & 1 == 1 {
-        return field;
-    }
-    frame[..field].iter().rposition(|&b| b == 0x14).unwrap_or(0)
-}
-
-fn more(f: &[u8]) -> bool {
-    f[0] >= 0x80
-}
-
-/// What of a fragment, the n first bytes of f, goes behind what is held: in the first of several without the check byte.
-fn tail(state: xara::Receiver, f: &[u8], n: usize) -> &[u8] {
-    let start = if state.held == 0 && more(f) { 2 } else { 1 };
-    &f[start.min(n)..n]
-}
-
-/// Where a fragment's tail goes; none where the call changes no store byte.
-fn place(state: xara::Receiver, f: &[u8], n: usize) -> Option<usize> {
-    let idle = n == 0 || n > f.len();
-    if idle || state.overflow != 0 || state.held == 0 && more(f) && f.len() < 2 {
-        return None;
-    }
-    let base = state.held.max(1);
-    let fragments = if state.held == 0 { 0 } else { state.nfrag };
-    let full = base + tail(state, f, n).len() > MAX_MESSAGE || fragments >= MOST_FRAGMENTS;
-    (!full).then_some(base)
 }

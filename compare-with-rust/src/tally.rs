@@ -50,6 +50,9 @@ pub struct Tally {
     dropped: u64,
     more: u64,
     done: u64,
+    made_up_refused: u64,
+    made_up_answered: u64,
+    every_room: u64,
     coded: BTreeMap<Result<u8, u8>, u64>,
     decoded: BTreeMap<Result<u8, u8>, u64>,
     longest: usize,
@@ -91,6 +94,19 @@ impl Tally {
         }
     }
 
+    /// Counts the calls on states and stores that a caller made up.
+    pub fn made_up(&mut self, heard: Heard) {
+        match heard {
+            Heard::Refused(_) => self.made_up_refused += 1,
+            _ => self.made_up_answered += 1,
+        }
+    }
+
+    /// Counts the calls that were given every output length from 0 on.
+    pub fn every_room(&mut self) {
+        self.every_room += 1;
+    }
+
     /// Counts the types and the refusals of the coder.
     pub fn coded(&mut self, met: Result<u8, u8>) {
         *self.coded.entry(met).or_default() += 1;
@@ -127,6 +143,8 @@ impl Tally {
             text += "\n";
         }
         text += &format!("pushes and joins: {} done, {} more, {} dropped\n", self.done, self.more, self.dropped);
+        text += &format!("made up: {} answered, {} refused\n", self.made_up_answered, self.made_up_refused);
+        text += &format!("with every output length from 0: {} calls\n", self.every_room);
         text += &format!("coded: {}\n", told("type", &self.coded));
         text += &format!("decoded: {}, at most {} bytes\n", told("command", &self.decoded), self.longest);
         text + &format!("journeys: {} decoded, {} unchanged\n", self.decoded_journeys, self.unchanged_journeys)

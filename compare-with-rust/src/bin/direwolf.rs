@@ -107,7 +107,7 @@ fn address(call: &str, heard: bool, last: bool) -> Vec<u8> {
 
 /// Coded, cut into fragments, framed, pushed, and decoded again.
 fn journey(frame: &[u8]) -> Result<Vec<u8>, u8> {
-    let (mut message, mut store, mut data) = ([0; 5000], [0; 5000], vec![0; 45_762]);
+    let (mut message, mut store, mut data) = ([0; 5000], [0; 5000], vec![0; 45_764]);
     let (n, _) = xara::encode(AX25, frame, &mut message)?;
     let message = &message[..n];
     let mut receiver = Receiver::new(MASK)?;

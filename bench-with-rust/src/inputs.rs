@@ -1,0 +1,81 @@
+//! The inputs, the same on every run.
+
+/// A small generator (xorshift64*).
+pub struct Random(u64);
+
+impl Random {
+    pub fn new() -> Self {
+        Random(0x9E37_79B9_7F4A_7C15)
+    }
+
+    fn number(&mut self) -> u64 {
+        self.0 ^= self.0 >> 12;
+        self.0 ^= self.0 << 25;
+        self.0 ^= self.0 >> 27;
+        self.0.wrapping_mul(0x2545_F491_4F6C_DD1D)
+    }
+
+    /// So many bytes from a range of values.
+    fn between(&mut self, low: u8, high: u8, n: usize) -> Vec<u8> {
+        let width = u64::from(high - low) + 1;
+        (0..n).map(|_| low + (((self.number() >> 32) * width) >> 32) as u8).collect()
+    }
+
+    /// Any bytes.
+    pub fn bytes(&mut self, n: usize) -> Vec<u8> {
+        self.between(0x00, 0xFF, n)
+    }
+
+    /// Printable text.
+    pub fn text(&mut self, n: usize) -> Vec<u8> {
+        self.between(0x20, 0x7E, n)
+    }
+}
+
+/// A call in an address field; the last one ends the list.
+fn address(call: &[u8; 6], ssid: u8, last: bool) -> Vec<u8> {
+    let mut field: Vec<u8> = call.iter().map(|c| c << 1).collect();
+    field.push(0x60 | ssid << 1 | u8::from(last));
+    field
+}
+
+/// The addresses, control 03 and PID F0 of a frame without digipeaters.
+fn header() -> Vec<u8> {
+    let mut frame = address(b"APRS  ", 0, false);
+    frame.extend(address(b"DL1ABC", 9, true));
+    frame.extend([0x03, 0xF0]);
+    frame
+}
+
+/// A status report, coded as Text.
+pub fn text_frame(r: &mut Random, length: usize) -> Vec<u8> {
+    let mut frame = header();
+    frame.push(b'>');
+    frame.extend(r.text(length - frame.len()));
+    frame
+}
+
+/// A frame of any bytes, coded as Binary.
+pub fn binary_frame(r: &mut Random, length: usize) -> Vec<u8> {
+    let mut frame = header();
+    frame.push(0x80);
+    frame.extend(r.bytes(length - frame.len()));
+    frame
+}
+
+/// A position report of 60 bytes with a digipeater, an altitude and a comment.
+pub fn position_frame() -> Vec<u8> {
+    let mut frame = address(b"APRS  ", 0, false);
+    frame.extend(address(b"DL1ABC", 9, false));
+    frame.extend(address(b"WIDE1 ", 1, true));
+    frame.extend([0x03, 0xF0]);
+    frame.extend(b"!4903.50N/00723.75E>/A=001234 VARA HF");
+    frame
+}
+
+/// A message to send, with a first byte below 80.
+pub fn message(r: &mut Random, length: usize) -> Vec<u8> {
+    let mut bytes = r.bytes(length);
+    bytes[0] &= 0x7F;
+    bytes
+}

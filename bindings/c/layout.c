@@ -1,0 +1,61 @@
+/* Prints the size of each struct of xara.h and the place of each field, for the Rust crate's test to compare with its own. */
+#include "xara.h"
+
+#include <stdio.h>
+
+#define SIZE(type) printf(#type " %zu %zu\n", sizeof(type), _Alignof(type))
+#define PLACE(type, field) printf(#type "." #field " %zu %zu\n", offsetof(type, field), sizeof(((type *)0)->field))
+
+static void arguments(void)
+{
+    SIZE(XaraControl);
+    PLACE(XaraControl, reply);
+    PLACE(XaraControl, compressed);
+    PLACE(XaraControl, hint);
+    SIZE(XaraReceiver);
+    PLACE(XaraReceiver, held);
+    PLACE(XaraReceiver, nfrag);
+    PLACE(XaraReceiver, count);
+    PLACE(XaraReceiver, crc_mask);
+    PLACE(XaraReceiver, overflow);
+}
+
+static void answers(void)
+{
+    SIZE(XaraAnswer);
+    PLACE(XaraAnswer, ok);
+    PLACE(XaraAnswer, refusal);
+    PLACE(XaraAnswer, value);
+    SIZE(XaraFresh);
+    PLACE(XaraFresh, ok);
+    PLACE(XaraFresh, refusal);
+    PLACE(XaraFresh, receiver);
+    SIZE(XaraPushed);
+    PLACE(XaraPushed, kind);
+    PLACE(XaraPushed, refusal);
+    PLACE(XaraPushed, length);
+    PLACE(XaraPushed, receiver);
+    SIZE(XaraEncoded);
+    PLACE(XaraEncoded, ok);
+    PLACE(XaraEncoded, refusal);
+    PLACE(XaraEncoded, aprs_type);
+    PLACE(XaraEncoded, length);
+    SIZE(XaraSummary);
+    PLACE(XaraSummary, ok);
+    PLACE(XaraSummary, refusal);
+    PLACE(XaraSummary, aprs_type);
+    PLACE(XaraSummary, ui);
+    PLACE(XaraSummary, digis);
+    SIZE(XaraDecoded);
+    PLACE(XaraDecoded, ok);
+    PLACE(XaraDecoded, refusal);
+    PLACE(XaraDecoded, command);
+    PLACE(XaraDecoded, length);
+}
+
+int main(void)
+{
+    arguments();
+    answers();
+    return 0;
+}

@@ -1,0 +1,280 @@
+/*
+ * xara.h: the packet coding of the gateway, for C and C++.
+ *
+ * Link libxara.a, which `rt staticlib xara` writes to target/staticlib. It is for x86-64 Linux, needs no other library than C's,
+ * allocates nothing and keeps nothing between calls: threads may call it at once, each with its own outputs and stores.
+ *
+ * A report travels one way:
+ *
+ *   data -> xara_encode -> message -> xara_fragment -> fragments -> xara_build_frame -> frames -> the air
+ *        -> xara_receiver_push -> message -> xara_decode -> data
+ *
+ * What every call keeps to:
+ * - It ends on every input with an answer or with a refusal, whose number is one of enum xara_refusal.
+ * - Where it refuses, no lent byte and nothing in a receiver is changed.
+ * - Where it answers, it writes the bytes of the answer to the front of the lent output, and leaves all behind them as they
+ *   were. It never writes to an input.
+ *
+ * What the caller keeps to, since nothing can test it:
+ * - A pointer and the length behind it are so many bytes that may be read, and for an output or a store also written. A pointer
+ *   is never NULL, even where the length is 0: any address will do then.
+ * - An output or a store overlaps no other buffer of the same call.
+ * - Nobody else writes an input, or reads or writes an output or a store, while the call runs.
+ * - A size_t has 8 bytes.
+ */
+#ifndef XARA_H
+#define XARA_H
+
+#include <stdbool.h>
+#include <stddef.h>
+#include <stdint.h>
+
+#ifdef __cplusplus
+extern "C" {
+#endif
+
+/* Sizes, in bytes. An output with the most bytes is never refused as too short. */
+#define XARA_MAX_DATA 4999     /* data to code */
+#define XARA_MAX_MESSAGE 5000  /* a message: the output of xara_encode, the input of xara_fragment and xara_decode */
+#define XARA_MAX_DECODED 45764 /* decoded data: the output of xara_decode */
+#define XARA_STORE 5000        /* a receiver's store: exactly so many */
+#define XARA_MIN_FIELD 3       /* the field: a fragment has at most field bytes */
+#define XARA_MAX_FIELD 512
+#define XARA_FRAME_EXTRA 3 /* a frame has field + 3 bytes */
+#define XARA_MAX_FRAME (XARA_MAX_FIELD + XARA_FRAME_EXTRA)
+
+/* The masks: which bits of the check byte are the CRC's. A sender and its receiver use the same. */
+#define XARA_MASK_HF 0xF0u
+#define XARA_MASK_FM 0xF8u
+
+/* The most fragments of a message that is sent under each mask, and of one that is heard. */
+#define XARA_MAX_FRAGMENTS_HF 17
+#define XARA_MAX_FRAGMENTS_FM 9
+#define XARA_RX_MAX_FRAGMENTS 255
+
+/* No marker: it ends a fragment that is shorter than its field. */
+#define XARA_TERMINATOR 0x14u
+
+/* What data is. */
+enum xara_command {
+    XARA_AX25 = 0,      /* an AX.25 frame with calls of six letters */
+    XARA_AX25_LONG = 1, /* the same with calls of seven */
+    XARA_GENERIC = 2    /* any bytes */
+};
+
+/* What the information of an AX.25 frame is. Generic bytes count as text. */
+enum xara_aprs_type {
+    XARA_TEXT = 0,
+    XARA_BINARY = 1,
+    XARA_POSITION = 2,
+    XARA_TIMESTAMPED_POSITION = 3,
+    XARA_MESSAGE = 4,
+    XARA_THIRD_PARTY = 6
+};
+
+/* Why a call refuses. Nothing is changed then. */
+enum xara_refusal {
+    XARA_REFUSAL_COMMAND = 1,     /* the command is not 0, 1 or 2 */
+    XARA_REFUSAL_TOO_LONG = 2,    /* data over 4,999 bytes, or a message over 5,000 */
+    XARA_REFUSAL_SHORT = 3,       /* the AX.25 frame ends too early */
+    XARA_REFUSAL_BAD_CALL = 4,    /* a call has a letter that has no code */
+    XARA_REFUSAL_FORMAT = 5,      /* the information is not of the form that its type asks for */
+    XARA_REFUSAL_OUTPUT = 6,      /* the lent output is shorter than the answer */
+    XARA_REFUSAL_NOT_DECODED = 7, /* the message can't be decoded */
+    XARA_REFUSAL_FIELD = 8,       /* the field is outside 3 to 512 */
+    XARA_REFUSAL_MASK = 9,        /* the mask is not F0 or F8 */
+    XARA_REFUSAL_EMPTY = 10,      /* the message to send is empty */
+    XARA_REFUSAL_FIRST_BYTE = 11, /* its first byte is 80 or more */
+    XARA_REFUSAL_COUNT = 12,      /* it takes more fragments than the mask leaves room for */
+    XARA_REFUSAL_NUMBER = 13,     /* the fragment's number is not below the count */
+    XARA_REFUSAL_FRAGMENT = 14,   /* the fragment to frame is empty or longer than the field */
+    XARA_REFUSAL_MARKER = 15,     /* the marker is 14 */
+    XARA_REFUSAL_CONTROL = 16,    /* the reply is over 3 or the hint over 7 */
+    XARA_REFUSAL_STATE = 17       /* the store has not 5,000 bytes, or the state holds over 5,000 or counts over 255 */
+};
+
+/* What a push or a join answers. */
+enum xara_kind {
+    XARA_REFUSED = 0, /* nothing is changed */
+    XARA_DROPPED = 1, /* the frame or fragment is lost */
+    XARA_MORE = 2,    /* the message goes on */
+    XARA_DONE = 3     /* the message is the first `length` bytes of the store */
+};
+
+/* 16 bytes. ok with a length or a count, or a refusal's number. */
+typedef struct XaraAnswer {
+    bool ok;
+    uint8_t refusal; /* 0 where ok */
+    size_t value;    /* 0 where not ok */
+} XaraAnswer;
+
+/* 3 bytes. What the control byte of a frame carries. */
+typedef struct XaraControl {
+    uint8_t reply;      /* 0 to 3 */
+    uint8_t compressed; /* any byte but 0 is compressed */
+    uint8_t hint;       /* 0 to 7 */
+} XaraControl;
+
+/*
+ * 24 bytes. A receiver's state, which goes with one store. Each call takes it by value and hands back the next one: keep that,
+ * lend the same store again, and write to neither between calls. After XARA_DONE the message may be read from the store until
+ * the next call.
+ */
+typedef struct XaraReceiver {
+    size_t held;      /* bytes of the store that are held, to 5,000 */
+    size_t nfrag;     /* fragments, to 255 */
+    uint8_t count;    /* the check byte */
+    uint8_t crc_mask; /* XARA_MASK_HF or XARA_MASK_FM */
+    uint8_t overflow; /* any byte but 0: the rest of a message that is too long is dropped */
+} XaraReceiver;
+
+/* 32 bytes. ok with a new receiver, or a refusal's number. */
+typedef struct XaraFresh {
+    bool ok;
+    uint8_t refusal; /* 0 where ok */
+    XaraReceiver receiver;
+} XaraFresh;
+
+/* 40 bytes. What a push or a join answers, and the receiver from here on; where it refuses, the receiver as it was. */
+typedef struct XaraPushed {
+    uint8_t kind;    /* enum xara_kind */
+    uint8_t refusal; /* 0 but for XARA_REFUSED */
+    size_t length;   /* 0 but for XARA_DONE */
+    XaraReceiver receiver;
+} XaraPushed;
+
+/* 16 bytes. ok with the data's type and the message's length, or a refusal's number. */
+typedef struct XaraEncoded {
+    bool ok;
+    uint8_t refusal;   /* 0 where ok */
+    uint8_t aprs_type; /* enum xara_aprs_type; 0 where not ok */
+    size_t length;     /* 0 where not ok */
+} XaraEncoded;
+
+/* 16 bytes. ok with what a frame is, or a refusal's number. */
+typedef struct XaraSummary {
+    bool ok;
+    uint8_t refusal;   /* 0 where ok */
+    uint8_t aprs_type; /* enum xara_aprs_type */
+    bool ui;           /* control is 03 */
+    size_t digis;      /* digipeaters, to 8 */
+} XaraSummary;
+
+/* 16 bytes. ok with the command and the data's length, or a refusal's number. */
+typedef struct XaraDecoded {
+    bool ok;
+    uint8_t refusal; /* 0 where ok */
+    uint8_t command; /* enum xara_command */
+    size_t length;   /* 0 where not ok */
+} XaraDecoded;
+
+/* The CRC-16/GENIBUS of any bytes, of any length. Refuses nothing. */
+uint16_t xara_crc16_genibus(const uint8_t *data, size_t data_len);
+
+/*
+ * How many fragments a message of so many bytes takes: 1 up to field bytes.
+ * Refuses with FIELD, TOO_LONG.
+ */
+XaraAnswer xara_count_for_field(size_t total, size_t field);
+
+/*
+ * Fragment k of a message, counted from 0, to the front of out; answers its length, at most field.
+ * Refuses with FIELD, MASK, EMPTY, TOO_LONG, FIRST_BYTE, COUNT, NUMBER, OUTPUT, in this order.
+ */
+XaraAnswer xara_fragment(const uint8_t *message, size_t message_len, size_t field, uint8_t mask, size_t k, uint8_t *out,
+                         size_t out_len);
+
+/*
+ * The frame of a fragment to the front of out; answers its length, which is field + 3.
+ * The marker stands behind a fragment that is shorter than the field, and may be any byte but 14.
+ * Refuses with FIELD, FRAGMENT, MARKER, CONTROL, OUTPUT, in this order.
+ */
+XaraAnswer xara_build_frame(size_t field, const uint8_t *data, size_t data_len, XaraControl control, uint8_t marker, uint8_t *out,
+                            size_t out_len);
+
+/* A receiver that holds nothing. Refuses with MASK. */
+XaraFresh xara_receiver_new(uint8_t crc_mask);
+
+/*
+ * A frame that was heard, of field + 3 bytes; one of another length is dropped. The CRC at its end is not looked at.
+ * The store has exactly XARA_STORE bytes, whatever they are at first.
+ * Refuses with STATE, MASK, FIELD, in this order.
+ */
+XaraPushed xara_receiver_push(XaraReceiver receiver, uint8_t *store, size_t store_len, const uint8_t *frame, size_t frame_len,
+                              size_t field);
+
+/*
+ * A fragment without its frame: the n first bytes of f. Where n is 0 or over f_len it is dropped.
+ * Refuses with STATE, MASK, in this order.
+ */
+XaraPushed xara_receiver_join(XaraReceiver receiver, uint8_t *store, size_t store_len, const uint8_t *f, size_t f_len, size_t n);
+
+/* Nothing held, fragments 0, no overflow; check byte and mask are kept. Refuses nothing and touches no store. */
+XaraReceiver xara_receiver_reset(XaraReceiver receiver);
+
+/*
+ * The message that data is coded to, to the front of out; answers its length, at most 5,000, and the data's type.
+ * Refuses with COMMAND, TOO_LONG, then SHORT, BAD_CALL or FORMAT, whichever is met first, then OUTPUT.
+ */
+XaraEncoded xara_encode(uint8_t command, const uint8_t *data, size_t data_len, uint8_t *out, size_t out_len);
+
+/*
+ * What a frame is, before it is coded; of generic bytes text, no UI frame, 0 digipeaters.
+ * Refuses with COMMAND, TOO_LONG, SHORT, in this order.
+ */
+XaraSummary xara_summary(uint8_t command, const uint8_t *data, size_t data_len);
+
+/*
+ * The data that a message was coded from, to the front of out; answers the command and the data's length.
+ * Refuses with TOO_LONG, NOT_DECODED, OUTPUT, in this order.
+ */
+XaraDecoded xara_decode(const uint8_t *message, size_t message_len, uint8_t *out, size_t out_len);
+
+/* What a refusal says, for a log. */
+static inline const char *xara_refusal_text(uint8_t refusal)
+{
+    switch (refusal) {
+    case XARA_REFUSAL_COMMAND:
+        return "the command is not 0, 1 or 2";
+    case XARA_REFUSAL_TOO_LONG:
+        return "data over 4,999 bytes, or a message over 5,000";
+    case XARA_REFUSAL_SHORT:
+        return "the AX.25 frame ends too early";
+    case XARA_REFUSAL_BAD_CALL:
+        return "a call has a letter that has no code";
+    case XARA_REFUSAL_FORMAT:
+        return "the information is not of the form that its type asks for";
+    case XARA_REFUSAL_OUTPUT:
+        return "the output is shorter than the answer";
+    case XARA_REFUSAL_NOT_DECODED:
+        return "the message can't be decoded";
+    case XARA_REFUSAL_FIELD:
+        return "the field is outside 3 to 512";
+    case XARA_REFUSAL_MASK:
+        return "the mask is not F0 or F8";
+    case XARA_REFUSAL_EMPTY:
+        return "the message to send is empty";
+    case XARA_REFUSAL_FIRST_BYTE:
+        return "the first byte of the message to send is 80 or more";
+    case XARA_REFUSAL_COUNT:
+        return "the message takes more fragments than the mask leaves room for";
+    case XARA_REFUSAL_NUMBER:
+        return "the fragment's number is not below the count";
+    case XARA_REFUSAL_FRAGMENT:
+        return "the fragment to frame is empty or longer than the field";
+    case XARA_REFUSAL_MARKER:
+        return "the marker is 14";
+    case XARA_REFUSAL_CONTROL:
+        return "the reply is over 3 or the hint over 7";
+    case XARA_REFUSAL_STATE:
+        return "the store has not 5,000 bytes, or the state holds over 5,000 or counts over 255";
+    default:
+        return "no refusal of this library";
+    }
+}
+
+#ifdef __cplusplus
+}
+#endif
+
+#endif

@@ -1,0 +1,177 @@
+//! Data coded to messages, and messages decoded.
+
+use crate::{AprsType, Command, MAX_DECODED, MAX_MESSAGE, Refusal, raw, told};
+use std::fmt;
+use std::ops::Deref;
+
+/// A message, with the type of the data that it was coded from. It reads as the message's bytes.
+#[derive(Clone, Copy, Debug, PartialEq, Eq)]
+pub struct Buffer<'a> {
+    /// The message.
+    pub bytes: &'a [u8],
+    /// What the data is.
+    pub aprs_type: AprsType,
+}
+
+impl Deref for Buffer<'_> {
+    type Target = [u8];
+
+    fn deref(&self) -> &[u8] {
+        self.bytes
+    }
+}
+
+/// Codes data into a lent output.
+///
+/// [`MAX_MESSAGE`] bytes are enough for every message. Refuses with [`Refusal::TooLong`], then [`Refusal::Short`],
+/// [`Refusal::BadCall`] or [`Refusal::Format`], whichever is met first, then [`Refusal::Output`].
+///
+/// ```
+/// use xara::{Command, Refusal};
+///
+/// let mut out = [0; 3];
+/// assert_eq!(xara::encode(Command::Generic, b"A", &mut out)?.bytes, [0x21, 0x82]);
+/// assert_eq!(xara::encode(Command::Generic, b"A", &mut out[..1]), Err(Refusal::Output));
+/// # Ok::<(), Refusal>(())
+/// ```
+pub fn encode<'a>(command: Command, data: &[u8], out: &'a mut [u8]) -> Result<Buffer<'a>, Refusal> {
+    let a = raw::xara_encode(command.byte(), data, out);
+    told(a.ok, a.refusal, ())?;
+    let aprs_type = AprsType::from_code(a.aprs_type).expect("the coder answers a type that there is");
+    Ok(Buffer { bytes: &out[..a.length], aprs_type })
+}
+
+/// Decodes a message into a lent output: the command and the data.
+///
+/// [`MAX_DECODED`] bytes are enough for every message. Refuses with [`Refusal::TooLong`], [`Refusal::NotDecoded`],
+/// [`Refusal::Output`], in this order.
+///
+/// ```
+/// use xara::{Command, Refusal};
+///
+/// let mut out = [0; 3];
+/// assert_eq!(xara::decode(&[0x21, 0x82], &mut out)?, (Command::Generic, &b"A"[..]));
+/// assert_eq!(xara::decode(&[], &mut out), Err(Refusal::NotDecoded));
+/// # Ok::<(), Refusal>(())
+/// ```
+pub fn decode<'a>(message: &[u8], out: &'a mut [u8]) -> Result<(Command, &'a [u8]), Refusal> {
+    let a = raw::xara_decode(message, out);
+    told(a.ok, a.refusal, ())?;
+    let command = Command::from_byte(a.command).expect("the decoder answers a command that there is");
+    Ok((command, &out[..a.length]))
+}
+
+/// What a frame is, before it is coded.
+#[derive(Clone, Copy, Debug, PartialEq, Eq)]
+pub struct Summary {
+    /// The type of its information.
+    pub aprs_type: AprsType,
+    /// Whether control is 03.
+    pub ui: bool,
+    /// How many digipeaters it names, up to 8.
+    pub digis: usize,
+}
+
+/// What a frame is; of generic bytes text, no UI frame, no digipeaters.
+///
+/// Refuses with [`Refusal::TooLong`], [`Refusal::Short`], in this order.
+///
+/// ```
+/// use xara::{AprsType, Command, Summary};
+///
+/// let frame = [0x86, 0xA2, 0x40, 0x40, 0x40, 0x40, 0x60, 0x96, 0x62, 0x82, 0x40, 0x40, 0x40, 0x61, 0x03, 0xF0, 0x41];
+/// let summary = xara::summary(Command::Ax25, &frame)?;
+/// assert_eq!(summary, Summary { aprs_type: AprsType::Text, ui: true, digis: 0 });
+/// # Ok::<(), xara::Refusal>(())
+/// ```
+pub fn summary(command: Command, data: &[u8]) -> Result<Summary, Refusal> {
+    let a = raw::xara_summary(command.byte(), data);
+    told(a.ok, a.refusal, ())?;
+    let aprs_type = AprsType::from_code(a.aprs_type).expect("the summary answers a type that there is");
+    Ok(Summary { aprs_type, ui: a.ui != 0, digis: a.digis })
+}
+
+/// Codes data into a buffer of its own, which is large enough for every message.
+///
+/// ```
+/// use xara::{AprsType, Command, Encoder};
+///
+/// let frame = [0x86, 0xA2, 0x40, 0x40, 0x40, 0x40, 0x60, 0x96, 0x62, 0x82, 0x40, 0x40, 0x40, 0x61, 0x03, 0xF0, 0x41];
+/// let mut encoder = Encoder::new();
+/// let message = encoder.encode(Command::Ax25, &frame)?;
+/// assert_eq!(message[..], [0x40, 0xAC, 0xB7, 0x01, 0x00, 0x10, 0x40]);
+/// assert_eq!(message.aprs_type, AprsType::Text);
+/// # Ok::<(), xara::Refusal>(())
+/// ```
+#[derive(Clone)]
+pub struct Encoder {
+    out: Box<[u8]>,
+}
+
+impl Encoder {
+    /// A coder with its buffer.
+    pub fn new() -> Self {
+        Encoder { out: vec![0; MAX_MESSAGE].into() }
+    }
+
+    /// The message that data is coded to, until the next call.
+    ///
+    /// Refuses with [`Refusal::TooLong`], then [`Refusal::Short`], [`Refusal::BadCall`] or [`Refusal::Format`], whichever is
+    /// met first.
+    pub fn encode(&mut self, command: Command, data: &[u8]) -> Result<Buffer<'_>, Refusal> {
+        encode(command, data, &mut self.out)
+    }
+}
+
+impl Default for Encoder {
+    fn default() -> Self {
+        Self::new()
+    }
+}
+
+impl fmt::Debug for Encoder {
+    fn fmt(&self, f: &mut fmt::Formatter<'_>) -> fmt::Result {
+        f.debug_struct("Encoder").finish_non_exhaustive()
+    }
+}
+
+/// Decodes messages into a buffer of its own, which is large enough for every one.
+///
+/// ```
+/// use xara::{Command, Decoder};
+///
+/// let mut decoder = Decoder::new();
+/// let (command, data) = decoder.decode(&[0x20, 0x80])?;
+/// assert_eq!((command, data), (Command::Generic, &[0x80][..]));
+/// # Ok::<(), xara::Refusal>(())
+/// ```
+#[derive(Clone)]
+pub struct Decoder {
+    out: Box<[u8]>,
+}
+
+impl Decoder {
+    /// A decoder with its buffer.
+    pub fn new() -> Self {
+        Decoder { out: vec![0; MAX_DECODED].into() }
+    }
+
+    /// The command and the data that a message was coded from, until the next call.
+    ///
+    /// Refuses with [`Refusal::TooLong`], [`Refusal::NotDecoded`], in this order.
+    pub fn decode(&mut self, message: &[u8]) -> Result<(Command, &[u8]), Refusal> {
+        decode(message, &mut self.out)
+    }
+}
+
+impl Default for Decoder {
+    fn default() -> Self {
+        Self::new()
+    }
+}
+
+impl fmt::Debug for Decoder {
+    fn fmt(&self, f: &mut fmt::Formatter<'_>) -> fmt::Result {
+        f.debug_struct("Decoder").finish_non_exhaustive()
+    }
+}

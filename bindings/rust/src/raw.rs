@@ -1,0 +1,170 @@
+//! The exported functions as they are: a slice crosses as a pointer and a length, and structs cross by value. The only module
+//! with unsafe code: each call lends whole slices, which Rust's borrows keep apart and alive.
+#![allow(unsafe_code)]
+
+#[repr(C)]
+#[derive(Clone, Copy)]
+pub struct XaraAnswer {
+    pub ok: u8,
+    pub refusal: u8,
+    pub value: usize,
+}
+
+#[repr(C)]
+#[derive(Clone, Copy)]
+pub struct XaraControl {
+    pub reply: u8,
+    pub compressed: u8,
+    pub hint: u8,
+}
+
+#[repr(C)]
+#[derive(Clone, Copy, Debug, PartialEq, Eq)]
+pub struct XaraReceiver {
+    pub held: usize,
+    pub nfrag: usize,
+    pub count: u8,
+    pub crc_mask: u8,
+    pub overflow: u8,
+}
+
+#[repr(C)]
+#[derive(Clone, Copy)]
+pub struct XaraFresh {
+    pub ok: u8,
+    pub refusal: u8,
+    pub receiver: XaraReceiver,
+}
+
+#[repr(C)]
+#[derive(Clone, Copy)]
+pub struct XaraPushed {
+    pub kind: u8,
+    pub refusal: u8,
+    pub length: usize,
+    pub receiver: XaraReceiver,
+}
+
+#[repr(C)]
+#[derive(Clone, Copy)]
+pub struct XaraEncoded {
+    pub ok: u8,
+    pub refusal: u8,
+    pub aprs_type: u8,
+    pub length: usize,
+}
+
+#[repr(C)]
+#[derive(Clone, Copy)]
+pub struct XaraSummary {
+    pub ok: u8,
+    pub refusal: u8,
+    pub aprs_type: u8,
+    pub ui: u8,
+    pub digis: usize,
+}
+
+#[repr(C)]
+#[derive(Clone, Copy)]
+pub struct XaraDecoded {
+    pub ok: u8,
+    pub refusal: u8,
+    pub command: u8,
+    pub length: usize,
+}
+
+mod linked {
+    use super::*;
+
+    unsafe extern "C" {
+        pub fn xara_crc16_genibus(data: *const u8, data_len: usize) -> u16;
+        pub safe fn xara_count_for_field(total: usize, field: usize) -> XaraAnswer;
+        pub fn xara_fragment(
+            message: *const u8,
+            message_len: usize,
+            field: usize,
+            mask: u8,
+            k: usize,
+            out: *mut u8,
+            out_len: usize,
+        ) -> XaraAnswer;
+        pub fn xara_build_frame(
+            field: usize,
+            data: *const u8,
+            data_len: usize,
+            control: XaraControl,
+            marker: u8,
+            out: *mut u8,
+            out_len: usize,
+        ) -> XaraAnswer;
+        pub safe fn xara_receiver_new(crc_mask: u8) -> XaraFresh;
+        pub fn xara_receiver_push(
+            receiver: XaraReceiver,
+            store: *mut u8,
+            store_len: usize,
+            frame: *const u8,
+            frame_len: usize,
+            field: usize,
+        ) -> XaraPushed;
+        pub fn xara_receiver_join(
+            receiver: XaraReceiver,
+            store: *mut u8,
+            store_len: usize,
+            f: *const u8,
+            f_len: usize,
+            n: usize,
+        ) -> XaraPushed;
+        pub safe fn xara_receiver_reset(receiver: XaraReceiver) -> XaraReceiver;
+        pub fn xara_encode(command: u8, data: *const u8, data_len: usize, out: *mut u8, out_len: usize) -> XaraEncoded;
+        pub fn xara_summary(command: u8, data: *const u8, data_len: usize) -> XaraSummary;
+        pub fn xara_decode(message: *const u8, message_len: usize, out: *mut u8, out_len: usize) -> XaraDecoded;
+    }
+}
+
+pub use linked::{xara_count_for_field, xara_receiver_new, xara_receiver_reset};
+
+pub fn xara_crc16_genibus(data: &[u8]) -> u16 {
+    // SAFETY: the slice is lent whole for reading.
+    unsafe { linked::xara_crc16_genibus(data.as_ptr(), data.len()) }
+}
+
+pub fn xara_fragment(message: &[u8], field: usize, mask: u8, k: usize, out: &mut [u8]) -> XaraAnswer {
+    let (lent, room) = (out.as_mut_ptr(), out.len());
+    // SAFETY: the slices are lent whole, one for reading and one for writing, and do not overlap.
+    unsafe { linked::xara_fragment(message.as_ptr(), message.len(), field, mask, k, lent, room) }
+}
+
+pub fn xara_build_frame(field: usize, data: &[u8], control: XaraControl, marker: u8, out: &mut [u8]) -> XaraAnswer {
+    let (lent, room) = (out.as_mut_ptr(), out.len());
+    // SAFETY: the slices are lent whole, one for reading and one for writing, and do not overlap.
+    unsafe { linked::xara_build_frame(field, data.as_ptr(), data.len(), control, marker, lent, room) }
+}
+
+pub fn xara_receiver_push(receiver: XaraReceiver, store: &mut [u8], frame: &[u8], field: usize) -> XaraPushed {
+    let (lent, room) = (store.as_mut_ptr(), store.len());
+    // SAFETY: the slices are lent whole, one for reading and one for writing, and do not overlap; any state is taken.
+    unsafe { linked::xara_receiver_push(receiver, lent, room, frame.as_ptr(), frame.len(), field) }
+}
+
+pub fn xara_receiver_join(receiver: XaraReceiver, store: &mut [u8], f: &[u8], n: usize) -> XaraPushed {
+    let (lent, room) = (store.as_mut_ptr(), store.len());
+    // SAFETY: the slices are lent whole, one for reading and one for writing, and do not overlap; any state is taken.
+    unsafe { linked::xara_receiver_join(receiver, lent, room, f.as_ptr(), f.len(), n) }
+}
+
+pub fn xara_encode(command: u8, data: &[u8], out: &mut [u8]) -> XaraEncoded {
+    let (lent, room) = (out.as_mut_ptr(), out.len());
+    // SAFETY: the slices are lent whole, one for reading and one for writing, and do not overlap.
+    unsafe { linked::xara_encode(command, data.as_ptr(), data.len(), lent, room) }
+}
+
+pub fn xara_summary(command: u8, data: &[u8]) -> XaraSummary {
+    // SAFETY: the slice is lent whole for reading.
+    unsafe { linked::xara_summary(command, data.as_ptr(), data.len()) }
+}
+
+pub fn xara_decode(message: &[u8], out: &mut [u8]) -> XaraDecoded {
+    let (lent, room) = (out.as_mut_ptr(), out.len());
+    // SAFETY: the slices are lent whole, one for reading and one for writing, and do not overlap.
+    unsafe { linked::xara_decode(message.as_ptr(), message.len(), lent, room) }
+}

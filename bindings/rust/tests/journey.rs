@@ -1,0 +1,193 @@
+//! Reports that go all the way, by the types that own their buffers.
+
+use xara::{AprsType, Command, Control, Decoder, Encoder, Heard, Mask, Reassembler, Summary};
+
+/// A position report: K1A-9 to APRS by WIDE1-1, which has repeated it.
+fn report() -> Vec<u8> {
+    let address = |call: &[u8; 6], low: u8| call.iter().map(|c| c << 1).chain([low]).collect::<Vec<u8>>();
+    let information = b"!4903.50N/00723.75E>/A=001234 mast moved";
+    let addresses =
+        [address(b"APRS  ", 0x60), address(b"K1A   ", 0x60 | 9 << 1), address(b"WIDE1 ", 0xE0 | 1 << 1 | 1)];
+    [&addresses.concat()[..], &[0x03, 0xF0], information].concat()
+}
+
+/// What the receiver says of each frame of a message but the lost one, and the data at the end.
+fn heard(
+    message: &[u8],
+    field: usize,
+    mask: Mask,
+    receiver: &mut Reassembler,
+    lost: usize,
+) -> (String, Option<Vec<u8>>) {
+    let (mut said, mut decoder, mut data) = (String::new(), Decoder::new(), None);
+    let frames =
+        xara::fragments(message, field, mask).and_then(|f| f.frames(Control::default(), 0xFF)).expect("accepted");
+    for (_, frame) in frames.enumerate().filter(|(k, _)| *k != lost) {
+        said.push(match receiver.push(&frame, field).expect("the field is accepted") {
+            Heard::Dropped => 'd',
+            Heard::More => 'm',
+            Heard::Done(message) => {
+                let (command, bytes) = decoder.decode(message).expect("it is decoded");
+                data = Some([&[command.byte()], bytes].concat());
+                'D'
+            }
+        });
+    }
+    (said, data)
+}
+
+#[test]
+fn a_report_arrives() {
+    let mut encoder = Encoder::new();
+    let summary = Summary { aprs_type: AprsType::Position, ui: true, digis: 1 };
+    assert_eq!(xara::summary(Command::Ax25, &report()), Ok(summary));
+    let message = encoder.encode(Command::Ax25, &report()).expect("it is coded");
+    assert_eq!(message.aprs_type, AprsType::Position);
+    for mask in [Mask::Hf, Mask::Fm] {
+        for field in [8, 10, 20, 64, 512] {
+            let mut receiver = Reassembler::new(mask);
+            let count = xara::count_for_field(message.len(), field).expect("accepted");
+            let whole = ("m".repeat(count - 1) + "D", Some([&[0], &report()[..]].concat()));
+            assert_eq!(heard(&message, field, mask, &mut receiver, usize::MAX), whole);
+            assert_eq!(heard(&message, field, mask, &mut receiver, usize::MAX), whole);
+        }
+    }
+}
+
+#[test]
+fn a_frame_is_lost_and_the_report_sent_again() {
+    let mut encoder = Encoder::new();
+    let message = encoder.encode(Command::Ax25, &report()).expect("it is coded");
+    let mut receiver = Reassembler::default();
+    assert_eq!(xara::count_for_field(message.len(), 10), Ok(4));
+    assert_eq!(heard(&message, 10, Mask::Hf, &mut receiver, 1), ("mmd".to_string(), None));
+    assert_eq!(heard(&message, 10, Mask::Hf, &mut receiver, 3), ("mmm".to_string(), None));
+    assert_eq!(receiver.first(), Some(message[0] | 0x80));
+    receiver.reset();
+    assert_eq!((receiver.first(), receiver.held()), (None, &[][..]));
+    assert_eq!(heard(&message, 10, Mask::Hf, &mut receiver, usize::MAX).0, "mmmD");
+}
+
+#[test]
+fn the_fragments_are_exact() {
+    let message: Vec<u8> = (0..100).collect();
+    let fragments = xara::fragments(&message, 9, Mask::Hf).expect("accepted");
+    assert_eq!((fragments.len(), fragments.field()), (13, 9));
+    let all: Vec<_> = fragments.clone().collect();
+    assert_eq!(all.len(), 13);
+    for (k, fragment) in all.iter().enumerate() {
+        assert_eq!(fragments.get(k).as_ref(), Some(fragment));
+        assert_eq!(fragments.clone().nth(k).as_ref(), Some(fragment));
+        assert_eq!(fragment[0] & 0x80 == 0, k == 12);
+    }
+    let tails: Vec<u8> = all.iter().enumerate().flat_map(|(k, f)| f[if k == 0 { 2 } else { 1 }..].to_vec()).collect();
+    assert_eq!(tails, message[1..]);
+    let mut some = fragments.clone();
+    assert_eq!((some.next(), some.nth(3), some.len()), (fragments.get(0), fragments.get(4), 8));
+    assert_eq!(fragments.get(13), None);
+    assert_eq!(fragments.clone().nth(13), None);
+    assert_eq!(fragments.clone().nth(usize::MAX), None);
+}
+
+#[test]
+fn the_frames_are_exact() {
+    let message: Vec<u8> = (0..100).collect();
+    let control = Control { reply: 2, compressed: true, hint: 5 };
+    let frames = xara::fragments(&message, 9, Mask::Hf).and_then(|f| f.frames(control, 0x01)).expect("accepted");
+    assert_eq!(frames.len(), 13);
+    for (k, frame) in frames.clone().enumerate() {
+        assert_eq!(frames.get(k), Some(frame));
+        assert_eq!(frames.clone().nth(k), Some(frame));
+        assert_eq!(frame.len(), 12);
+        assert_eq!(frame[9], 0xB4 | u8::from(k < 12));
+        assert_eq!(frame[10..], xara::crc16_genibus(&frame[..10]).to_be_bytes());
+    }
+    assert_eq!(frames.get(13), None);
+}
+
+/// A sender's marker and a zero stand behind a last fragment that is shorter than its field.
+#[test]
+fn a_shorter_fragment_is_filled() {
+    let mut out = [0xA5; 8];
+    let frame = xara::build_frame(5, b"AB", Control::default(), 0x77, &mut out).expect("accepted");
+    assert_eq!(frame[..6], [b'A', b'B', 0x14, 0x77, 0x00, 0x00]);
+}
+
+#[test]
+fn a_receiver_is_cloned_with_what_it_holds() {
+    let message = [0x40, 1, 2, 3];
+    let check = (xara::crc16_genibus(&message) >> 8) as u8 & Mask::Hf.byte();
+    let mut receiver = Reassembler::new(Mask::Hf);
+    assert_eq!(receiver.join(&[0xC0, check, 1, 2], 4), Ok(Heard::More));
+    let mut other = receiver.clone();
+    assert_eq!(receiver.held(), [0xC0, 1, 2]);
+    receiver.reset();
+    assert_eq!(other.held(), [0xC0, 1, 2]);
+    assert_eq!(other.join(&[0x40, 3], 2).map(Heard::done), Ok(Some(&message[..])));
+    assert_eq!(receiver.join(&[0x40, 3], 2).map(Heard::done), Ok(Some(&[0x40, 3][..])));
+}
+
+/// A frame of K1A, to a destination, with a control byte and this information.
+fn frame(dest: &[u8; 6], control: u8, information: &[u8]) -> Vec<u8> {
+    let address = |call: &[u8; 6], low: u8| call.iter().map(|c| c << 1).chain([low]).collect::<Vec<u8>>();
+    [&address(dest, 0x60)[..], &address(b"K1A   ", 0x61), &[control, 0xF0], information].concat()
+}
+
+#[test]
+fn every_type() {
+    let third = b"}K1A-9>APRS,TCPIP,K1A*:!4903.50N/00723.75E>";
+    let all: [(AprsType, u8, &[u8]); 6] = [
+        (AprsType::Text, 0, b">on the way"),
+        (AprsType::Binary, 1, b"\x80"),
+        (AprsType::Position, 2, b"!4903.50N/00723.75E>"),
+        (AprsType::TimestampedPosition, 3, b"@092345h4903.50N/00723.75E>"),
+        (AprsType::Message, 4, b":K1A      :hello"),
+        (AprsType::ThirdParty, 6, third),
+    ];
+    let mut encoder = Encoder::new();
+    for (aprs_type, code, information) in all {
+        assert_eq!((aprs_type.code(), AprsType::from_code(code)), (code, Some(aprs_type)));
+        assert_eq!(aprs_type.has_position(), code == 2 || code == 3);
+        for control in [0x03, 0x13] {
+            let data = frame(b"APRS  ", control, information);
+            let summary = Summary { aprs_type, ui: control == 0x03, digis: 0 };
+            assert_eq!(xara::summary(Command::Ax25, &data), Ok(summary));
+            assert_eq!(encoder.encode(Command::Ax25, &data).map(|message| message.aprs_type), Ok(aprs_type));
+        }
+    }
+    assert_eq!([5, 7, 255].map(AprsType::from_code), [None; 3]);
+    let generic = Summary { aprs_type: AprsType::Text, ui: false, digis: 0 };
+    assert_eq!(xara::summary(Command::Generic, &frame(b"APRS  ", 0x03, third)), Ok(generic));
+}
+
+/// A long frame has calls of seven letters, and comes back as one.
+#[test]
+fn a_long_frame_arrives() {
+    let address = |call: &[u8; 7], low: u8| call.iter().map(|c| c << 1).chain([low]).collect::<Vec<u8>>();
+    let data = [&address(b"CQ     ", 0x60)[..], &address(b"ABCDEFG", 0x61), &[0x03, 0xF0], b"hello"].concat();
+    let mut encoder = Encoder::new();
+    let message = encoder.encode(Command::Ax25Long, &data).expect("it is coded");
+    assert_eq!(Decoder::new().decode(&message), Ok((Command::Ax25Long, &data[..])));
+}
+
+#[test]
+fn new_receivers() {
+    for mask in [Mask::Hf, Mask::Fm] {
+        let made = Reassembler::with_crc_mask(mask.byte()).expect("the mask is accepted");
+        assert_eq!(Reassembler::new(mask).state(), made.state());
+        assert_eq!(made.state().crc_mask, mask.byte());
+    }
+    assert_eq!(Reassembler::default().state(), Reassembler::new(Mask::Hf).state());
+}
+
+/// Empty slices are lent, too.
+#[test]
+fn nothing_at_all() {
+    assert_eq!(xara::crc16_genibus(&[]), 0);
+    assert_eq!(xara::encode(Command::Generic, &[], &mut []), Err(xara::Refusal::Output));
+    assert_eq!(xara::decode(&[0x21], &mut []), Ok((Command::Generic, &[][..])));
+    assert_eq!(xara::fragment(&[], 3, Mask::Hf, 0, &mut []), Err(xara::Refusal::Empty));
+    assert_eq!(xara::build_frame(3, &[], Control::default(), 0, &mut []), Err(xara::Refusal::Fragment));
+    assert_eq!(Reassembler::default().join(&[], 0), Ok(Heard::Dropped));
+    assert_eq!(Reassembler::default().push(&[], 3), Ok(Heard::Dropped));
+}

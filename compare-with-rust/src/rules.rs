@@ -1,0 +1,106 @@
+//! Document 01's rules of the receiver on any state, also on one that no call leads to: there the source can't be asked.
+
+use crate::xara::{Heard, Receiver};
+use answers::{FIELDS, MASKS, MAX_MESSAGE};
+
+/// The most fragments of a message that is heard.
+const MOST_FRAGMENTS: usize = 255;
+
+/// A call on a receiver.
+#[derive(Clone, Copy, Debug)]
+pub enum Call<'a> {
+    /// A frame and its field.
+    Push(&'a [u8], usize),
+    /// The n first bytes of f.
+    Join(&'a [u8], usize),
+}
+
+/// The answer to a call, and the state and the store behind it.
+pub fn answer(state: Receiver, store: &mut [u8], call: Call) -> (Heard, Receiver) {
+    if let Some(refusal) = refusal(state, store.len(), call) {
+        return (Heard::Refused(refusal), state);
+    }
+    match call {
+        Call::Push(frame, field) => join(state, store, frame, fragment_length(frame, field)),
+        Call::Join(f, n) => join(state, store, f, n),
+    }
+}
+
+/// The table's order: 17, 9, 8.
+fn refusal(state: Receiver, size: usize, call: Call) -> Option<u8> {
+    if size != MAX_MESSAGE || state.held > MAX_MESSAGE || state.nfrag > MOST_FRAGMENTS {
+        return Some(17);
+    }
+    if !MASKS.contains(&state.crc_mask) {
+        return Some(9);
+    }
+    matches!(call, Call::Push(_, field) if !FIELDS.contains(&field)).then_some(8)
+}
+
+/// "A fragment (n first bytes of f) goes by these rules, in order."
+fn join(state: Receiver, store: &mut [u8], f: &[u8], n: usize) -> (Heard, Receiver) {
+    if n == 0 || n > f.len() {
+        return (Heard::Dropped, state);
+    }
+    if state.overflow != 0 {
+        return (Heard::Dropped, Receiver { overflow: u8::from(more(f)), ..state });
+    }
+    let first = state.held == 0;
+    if first && more(f) && f.len() < 2 {
+        return (Heard::Dropped, state);
+    }
+    let count = if first && more(f) { f[1] } else { state.count };
+    let Some(base) = place(state, f, n) else {
+        return (Heard::Dropped, Receiver { held: 0, nfrag: 0, count, overflow: u8::from(more(f)), ..state });
+    };
+    let tail = tail(state, f, n);
+    store[base..base + tail.len()].copy_from_slice(tail);
+    if first || !more(f) {
+        store[0] = f[0];
+    }
+    let nfrag = if first { 1 } else { state.nfrag + 1 };
+    let grown = Receiver { held: base + tail.len(), nfrag, count, ..state };
+    if more(f) { (Heard::More, grown) } else { finish(grown, store) }
+}
+
+/// "With two or more fragments the CRC under the mask must match the check byte, else Dropped."
+fn finish(state: Receiver, store: &[u8]) -> (Heard, Receiver) {
+    let crc = (answers::crc(&store[..state.held]) >> 8) as u8 & state.crc_mask;
+    let matches = state.nfrag < 2 || crc == state.count & state.crc_mask;
+    let heard = if matches { Heard::Done(state.held) } else { Heard::Dropped };
+    (heard, Receiver { held: 0, ..state })
+}
+
+/// "Fragment length is field where the control byte's bit 0 is set, else the place of the last 14 in the field, else 0."
+/// A frame of another length has no fragment.
+pub fn fragment_length(frame: &[u8], field: usize) -> usize {
+    if frame.len() != field + 3 {
+        return 0;
+    }
+    if frame[field] & 1 == 1 {
+        return field;
+    }
+    frame[..field].iter().rposition(|&b| b == 0x14).unwrap_or(0)
+}
+
+pub fn more(f: &[u8]) -> bool {
+    f[0] >= 0x80
+}
+
+/// What of a fragment, the n first bytes of f, goes behind what is held: in the first of several without the check byte.
+pub fn tail(state: Receiver, f: &[u8], n: usize) -> &[u8] {
+    let start = if state.held == 0 && more(f) { 2 } else { 1 };
+    &f[start.min(n)..n]
+}
+
+/// Where a fragment's tail goes; none where the call changes no store byte.
+pub fn place(state: Receiver, f: &[u8], n: usize) -> Option<usize> {
+    let idle = n == 0 || n > f.len();
+    if idle || state.overflow != 0 || state.held == 0 && more(f) && f.len() < 2 {
+        return None;
+    }
+    let base = state.held.max(1);
+    let fragments = if state.held == 0 { 0 } else { state.nfrag };
+    let full = base + tail(state, f, n).len() > MAX_MESSAGE || fragments >= MOST_FRAGMENTS;
+    (!full).then_some(base)
+}
