@@ -24,7 +24,9 @@ use ax25_address::address::addr_call;
 use ax25_address::classify::AprsType;
 use ax25_address::classify::code;
 use ax25_address::parse::addr_end;
+use ax25_address::record::PID_NO_L3;
 use ax25_address::record::Record;
+use ax25_address::record::UI_CTRL;
 use ax25_address::record::call_len;
 use ax25_aprs::part::Part;
 use ax25_body::body::aprs_encode;
@@ -138,8 +140,8 @@ fn digi_code(n: usize) -> u8
 fn is_ui(ctrl: u8, pid: u8) -> bool
     ensures { λ r. ⌜ r ≡ eqb ctrl 0x03 && eqb pid 0xF0 ⌝ }
 {
-    if ctrl == 0x03 {
-        return pid == 0xF0;
+    if ctrl == UI_CTRL {
+        return pid == PID_NO_L3;
     }
     false
 }

@@ -20,6 +20,11 @@ use crate::parse::addr_end;
 use crate::parse::digipeaters;
 use ax25_token::encode::call_starts;
 
+// Control of a UI frame, and the PID of no layer 3.
+pub const UI_CTRL: u8 = 0x03;
+
+pub const PID_NO_L3: u8 = 0xF0;
+
 // The source's record of a frame, without its addresses.
 pub struct Record {
     pub digis: usize,

@@ -7,7 +7,7 @@ ghost use Rattle.laws.specs.Wrote.{Wrote};
 ghost use Rattle.ax25_aprs.specs.Words.{word, wordAt};
 
 // Eight letters a word, with zeros behind it.
-const LETTERS: [u8; 72] =
+const DICTIONARY: [u8; 72] =
     *b"/A=00\0\0\0VARA\0\0\0\0PinPointHF \0\0\0\0\0ack\0\0\0\0\0APRS\0\0\0\0ping{\0\0\0Digi\0\0\0\0Gate\0\0\0\0";
 
 const SIZES: [usize; 9] = [5, 4, 8, 3, 3, 4, 5, 4, 4];
@@ -25,7 +25,7 @@ pub fn letter(n: usize, j: usize) -> u8
     requires { ⌜ (1 ≤ n) × (n ≤ 9) × (j < 8) ⌝ }
     ensures { λ r. ⌜ r ≡ getD (word n) j 0 ⌝ }
 {
-    LETTERS[(n - 1) * 8 + j]
+    DICTIONARY[(n - 1) * 8 + j]
 }
 
 // s starts with word n.

@@ -18,6 +18,8 @@ ghost use Rattle.ax25_decode.specs.Put.{ReadsTo, fieldOf, apIn, readEnds
 use ax25_address::alias::alias_call;
 use ax25_address::call_bytes::call_bytes;
 use ax25_address::classify::AprsType;
+use ax25_address::record::PID_NO_L3;
+use ax25_address::record::UI_CTRL;
 use ax25_aprs::field;
 use ax25_body::body::aprs_decode;
 use ax25_body::third::third_decode;
@@ -259,8 +261,8 @@ fn put_ui(header: u8, out: &mut [u8], to: usize) -> usize
     ensures { λ r. ⌜ r ≤ to + 2 ⌝ }
 {
     if header / 64 % 2 == 1 {
-        let p = bits::write::byte(out, to, 0x03);
-        return bits::write::byte(out, p, 0xF0);
+        let p = bits::write::byte(out, to, UI_CTRL);
+        return bits::write::byte(out, p, PID_NO_L3);
     }
     to
 }

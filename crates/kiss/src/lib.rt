@@ -18,6 +18,7 @@ ghost use Rattle.kiss.specs.Told.{encodedOf, codeInto, summarisedOf, dec
 use ax25_address::classify::AprsType;
 use ax25_address::record::Parsed;
 use ax25_address::record::Record;
+use ax25_address::record::UI_CTRL;
 use ax25_aprs::part::Part;
 use bits::read::Got;
 use refusals::COMMAND;
@@ -130,7 +131,7 @@ pub fn summary(command: u8, data: &[u8]) -> Summarised
     Summarised::Is(Facts {
         aprs_type,
         digis,
-        ui: found.ctrl == 0x03,
+        ui: found.ctrl == UI_CTRL,
     })
 }
 
