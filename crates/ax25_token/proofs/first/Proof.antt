@@ -6,10 +6,6 @@ use Rattle.ax25_token.specs.Call.{empty, pushed}
 use borrow.Author.Needs.{needs}
 use Rattle.ax25_token.proofs.first.Statement.{statement}
 use Rattle.ax25_token.proofs.first.Tie as tie
-use Rattle.ax25_token.proofs.first.Reads as reads
-use Rattle.ax25_token.proofs.first.Lts as lts
-use Rattle.ax25_token.proofs.letter.Reads as letter-reads
-use Rattle.ax25_token.proofs.push.Reads as push-reads
 
 letter-requires : tie.Need-letter-requires
 letter-requires c κs = search needs

@@ -5,8 +5,6 @@ use mathlib.Core.Path.{refl}
 use Rattle.ax25_token.specs.Tables.{callAlphabet}
 use Rattle.ax25_token.proofs.letter.Statement.{statement}
 use Rattle.ax25_token.proofs.letter.Tie as tie
-use Rattle.ax25_token.proofs.letter.Reads as reads
-use Rattle.ax25_token.proofs.letter.Lts as lts
 
 array-read-result : tie.Need-array-read-result
 array-read-result c = search needs
