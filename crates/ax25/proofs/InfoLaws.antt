@@ -57,7 +57,8 @@ pub record Own (typ : ℕ) : Type 0 where
   pub not-third : eqb typ ThirdParty ≡ false
   pub more : 2 ≤ typ
 
-own-place : (n : ℕ) → OneOf (2 ∷ 3 ∷ 4 ∷ []) n → (2 ≤ n) × (n ≤ 4)
+-- the places of these three among the types
+pub own-place : (n : ℕ) → OneOf (2 ∷ 3 ∷ 4 ∷ []) n → (2 ≤ n) × (n ≤ 4)
 own-place n (inl e) = (omega (arith, e), omega (arith, e))
 own-place n (inr (inl e)) = (omega (arith, e), omega (arith, e))
 own-place n (inr (inr e)) = (omega (arith, e), omega (arith, e))

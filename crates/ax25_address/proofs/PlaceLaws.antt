@@ -17,7 +17,7 @@ use Rattle.ax25_address.specs.Digis.{digisOf}
 use Rattle.ax25_address.specs.Parse.{splitOff, Parsed, digiFields, fieldsOf, parseOf, countOf}
 use Rattle.ax25_address.specs.declared.parse.Digis.{Digis}
 use Rattle.ax25_address.specs.declared.parse.Digis.the-variants.{Found, Short}
-use Rattle.ax25_address.proofs.SizeLaws.{split-is, parse-size}
+use Rattle.ax25_address.proofs.SizeLaws.{split-is, parse-by, parse-size}
 
 -- ---- an address field is read no further than it goes
 
@@ -63,13 +63,9 @@ pub record Places (l : ℕ) (d : List ℕ) (r : Parsed) (n : ℕ) : Type 0 where
   pub info-is : r .info ≡ drop ((n + 2) * (l + 1) + 2) d
 
 pub parse-places : (l : ℕ) (d : List ℕ) (r : Parsed) → parseOf l d ≡ some r → Places l d r (length (r .digis))
-unfolding parseOf
 parse-places l d r e =
-    from-some (splitOff (l + 1) d) _ r e
-    (λ p ep e₁. from-some (splitOff (l + 1) (p .1)) _ r e₁
-    (λ q eq e₂. from-some (digiFields l 8 (getD (q .0) l 0) (q .1)) _ r e₂
-    (λ v ev e₃. from-some (splitOff 2 (v .1)) _ r e₃
-    (λ w ew e₄.
+    parse-by (λ t. Places l d t (length (t .digis))) l d r e
+    (λ p q v w ep eq ev ew.
     let a = split-is (l + 1) d p ep in
     let b = split-is (l + 1) (p .1) q eq in
     let c = fields-are l 8 (getD (q .0) l 0) (q .1) v ev in
@@ -81,7 +77,7 @@ parse-places l d r e =
     let fields : v .0 ≡ fieldsOf l n (drop (2 * (l + 1)) d) = c .0 ∙ ap (fieldsOf l n) behind in
     let rest : v .1 ≡ drop ((n + 2) * (l + 1)) d =
     c .1 ∙ ap (drop (n * (l + 1))) behind ∙ drop-drop (n * (l + 1)) (2 * (l + 1)) d ∙ ap (λ (j : ℕ). drop j d) all in
-    rw (← Option·some-injective _ r e₄, length-map (v .0) (addrCall l))
+    rw (length-map (v .0) (addrCall l))
     (record {
       dest-is = ap (map upper) (ap (addrCall l) (a .1) ∙ addr-cut l d);
       src-is = ap (map upper) (ap (addrCall l) (b .1) ∙ addr-cut l (p .1) ∙ ap (addrCall l) (a .2));
@@ -90,7 +86,7 @@ parse-places l d r e =
       control-is = ap (λ (s : List ℕ). getD s 0 0) (z .1) ∙ getD-take 2 (v .1) 0 0 (omega arith) ∙ ap (λ (s : List ℕ). getD s 0 0) rest ∙ getD-drop ((n + 2) * (l + 1)) d 0 0 ∙ ap (λ (j : ℕ). getD d j 0) (add-zero ((n + 2) * (l + 1)));
       pid-is = ap (λ (s : List ℕ). getD s 1 0) (z .1) ∙ getD-take 2 (v .1) 1 0 (omega arith) ∙ ap (λ (s : List ℕ). getD s 1 0) rest ∙ getD-drop ((n + 2) * (l + 1)) d 1 0;
       info-is = z .2 ∙ ap (drop 2) rest ∙ drop-drop 2 ((n + 2) * (l + 1)) d;
-    })))))
+    }))
 
 -- ---- what the answer says
 

@@ -1,6 +1,6 @@
 -- The sizes of what a frame is parsed into.
 -- Assumes nothing.
-use mathlib.Core.Path.{_≡_, refl, sym, ap, _∙_}
+use mathlib.Core.Path.{_≡_, refl, sym, ap, subst, _∙_}
 use mathlib.Core.List.{List, [], _∷_, map, map-append}
 use mathlib.Core.Option.{some, Option·none-ne-some, Option·some-injective}
 use Prim.Native.Nat.{ℕ, zero, suc, _+_, _*_, _/_, _%_, _≤_}
@@ -17,7 +17,7 @@ use Rattle.laws.proofs.TrimLaws.{trim-le}
 use Rattle.ax25_token.specs.Token.{baseOf, suffix}
 use Rattle.ax25_token.proofs.CleanLaws.{upper-suffix}
 use Rattle.ax25_token.proofs.Hyphen.{base-suffix}
-use Rattle.ax25_address.specs.Address.{white, half, addrCall}
+use Rattle.ax25_address.specs.Address.{white, half, addrCall, heardIn}
 use Rattle.ax25_address.specs.Parse.{splitOff, Parsed, digiFields, parseOf}
 
 -- ---- the letters of a parsed call
@@ -39,6 +39,33 @@ module _ (l : ℕ) (a : List ℕ) where
       let k = getD a l 0 / 2 % 16 in
       rw (map-append upper letters (suffix k), upper-suffix k (omega arith))
       (omega (arith, base-suffix (map upper letters) k, length-map letters upper, letters-le))
+
+-- ---- how a frame is split
+
+-- what is told of two address fields, the further ones, and the control bytes with what follows them
+abbrev parsedOf : ℕ → List ℕ → List ℕ → List (List ℕ) → List ℕ × List ℕ → Parsed
+parsedOf l f g fs w =
+    record {
+      dest = map upper (addrCall l f);
+      src = map upper (addrCall l g);
+      digis = map (addrCall l) fs;
+      heard = map (heardIn l) fs;
+      control = getD (w .0) 0 0;
+      pid = getD (w .0) 1 0;
+      info = w .1;
+    }
+
+pub parse-by : (P : Parsed → Type 0) (l : ℕ) (d : List ℕ) (r : Parsed) → parseOf l d ≡ some r
+    → ((p q : List ℕ × List ℕ) (v : List (List ℕ) × List ℕ) (w : List ℕ × List ℕ) → splitOff (l + 1) d ≡ some p → splitOff (l + 1) (p .1) ≡ some q
+    → digiFields l 8 (getD (q .0) l 0) (q .1) ≡ some v → splitOff 2 (v .1) ≡ some w → P (parsedOf l (p .0) (q .0) (v .0) w))
+    → P r
+unfolding parseOf
+parse-by P l d r e k =
+    from-some (splitOff (l + 1) d) _ r e
+    (λ p ep e₁. from-some (splitOff (l + 1) (p .1)) _ r e₁
+    (λ q eq e₂. from-some (digiFields l 8 (getD (q .0) l 0) (q .1)) _ r e₂
+    (λ v ev e₃. from-some (splitOff 2 (v .1)) _ r e₃
+    (λ w ew e₄. subst P (Option·some-injective (parsedOf l (p .0) (q .0) (v .0) w) r e₄) (k p q v w ep eq ev ew)))))
 
 -- ---- the lengths of the parts
 
@@ -92,23 +119,18 @@ pub record Sized (l : ℕ) (r : Parsed) (size : ℕ) : Type 0 where
   pub total : size ≡ (length (r .digis) + 2) * (l + 1) + 2 + length (r .info)
 
 pub parse-size : (l : ℕ) (d : List ℕ) (r : Parsed) → parseOf l d ≡ some r → Sized l r (length d)
-unfolding parseOf
 parse-size l d r e =
-    from-some (splitOff (l + 1) d) _ r e
-    (λ p ep e₁. from-some (splitOff (l + 1) (p .1)) _ r e₁
-    (λ q eq e₂. from-some (digiFields l 8 (getD (q .0) l 0) (q .1)) _ r e₂
-    (λ v ev e₃. from-some (splitOff 2 (v .1)) _ r e₃
-    (λ w ew e₄.
+    parse-by (λ t. Sized l t (length d)) l d r e
+    (λ p q v w ep eq ev ew.
     let a = split-size (l + 1) d p ep in
     let b = split-size (l + 1) (p .1) q eq in
     let c = digis-size l 8 (getD (q .0) l 0) (q .1) v ev in
     let z = split-size 2 (v .1) w ew in
-    rw (← Option·some-injective _ r e₄)
-    (record {
+    record {
       dest-base = upper-base l (p .0);
       src-base = upper-base l (q .0);
       digis-base = all-base l (v .0);
       few = omega (arith, c .0, length-map (v .0) (addrCall l));
       one-each = length-map (v .0) _ ∙ sym (length-map (v .0) (addrCall l));
       total = rw (length-map (v .0) (addrCall l), add-mul (length (v .0)) 2 (l + 1)) (omega (arith, a .1, b .1, c .1, z .1));
-    })))))
+    })

@@ -1,20 +1,16 @@
 -- Third-party bodies by cases, for the code.
 -- Assumes nothing.
-use mathlib.Core.Path.{_≡_, refl, sym, ap, subst, _∙_}
+use mathlib.Core.Path.{_≡_, refl, ap, subst}
 use mathlib.Core.Bool.{Bool}
 use mathlib.Core.List.{List, _++_, append-assoc}
 use mathlib.Core.Option.{Option, none, some}
-use Prim.Native.Nat.{ℕ, _+_, _-_, _*_, _≤_, _<_}
+use Prim.Native.Nat.{ℕ, _+_, _≤_}
 use native.Mathlib.Omega.{arith}
-use lib.ListN.{length, take, drop, length-append}
+use lib.ListN.{length, length-append}
 use borrow.Author.Tests.{ne-eqb}
-use Rattle.laws.specs.Bits.{valueOf, unpack}
 use Rattle.laws.specs.Pick.{pick, _>>=_}
 use Rattle.laws.specs.Text.{ascii}
-use Rattle.laws.proofs.Cases.{by-le}
-use Rattle.bits.specs.Read.{takeBits, taken}
-use Rattle.bits.specs.declared.read.Taken.the-variants.{Bits, Short}
-use Rattle.bits.proofs.ReadLaws.{taken-bits, taken-short}
+use Rattle.bits.specs.Read.{takeBits}
 use Rattle.ax25_token.specs.Token.{readToken}
 use Rattle.ax25_address.specs.Types.{Text, Position, TimestampedPosition, Message}
 use Rattle.ax25_aprs.specs.Body.{readBody}
@@ -23,19 +19,6 @@ use Rattle.ax25_body.specs.Read.{readInner}
 use Rattle.ax25_body.specs.Pass.{Passed, Passes}
 use Rattle.ax25_body.specs.declared.third.Pass.{Pass}
 use Rattle.ax25_body.specs.declared.third.Pass.the-variants.{Next, Nothing}
-
--- bits that were read stand within the slice
-pub taken-within : (s : List ℕ) (at n v q : ℕ) → 0 < n → taken (at + n) (takeBits n (drop at (unpack s))) ≡ Bits v q → q ≤ length s * 8
-taken-within s at n v q h e =
-    by-le n (length s * 8 - at)
-    (λ k.
-    let f : Bits (valueOf (take n (drop at (unpack s)))) (at + n) ≡ Bits v q = sym (taken-bits s at n k) ∙ e in
-    let g : at + n ≡ q = cc in
-    omega arith)
-    (λ k.
-    let f : Short ≡ Bits v q = sym (taken-short s at n k) ∙ e in
-    let z : _≡_ {A = ℕ} 0 1 = cc in
-    absurd (omega arith))
 
 -- ---- an answer that has a call, and one that has none
 

@@ -1,7 +1,6 @@
 -- The ways through the readers of a frame's body, and of the whole frame.
 -- Assumes nothing.
 use mathlib.Core.Path.{_≡_, refl, sym, ap, subst, _∙_}
-use mathlib.Core.Logic.{inl, inr}
 use mathlib.Core.Bool.{Bool, false}
 use mathlib.Core.List.{List, [], _∷_, _++_, append-assoc}
 use mathlib.Core.Option.{Option, none, some}
@@ -28,6 +27,7 @@ use Rattle.ax25_aprs.specs.Third.{readThird}
 use Rattle.ax25_aprs.proofs.PartLaws.{reads-then}
 use Rattle.ax25.specs.Decode as decode
 use Rattle.ax25.specs.Decode.{digiCount, bytesIn, addresses, readHead, readInfo, readFrame}
+use Rattle.ax25.proofs.InfoLaws.{own-place}
 use Rattle.ax25_decode.specs.Put.{HeadRead, Heads}
 use Rattle.ax25_decode.specs.declared.Head.{Head}
 use Rattle.ax25_decode.specs.declared.Head.the-variants.{Is, Nothing}
@@ -49,12 +49,6 @@ bytes-in i b e = ap (λ (n : ℕ). packN n b) e
 
 -- ---- the body by its type
 
--- the places of the variants that the last arm takes
-inside : (n : ℕ) → OneOf (2 ∷ 3 ∷ 4 ∷ []) n → (2 ≤ n) × (n ≤ 4)
-inside n (inl e) = (omega (arith, e), omega (arith, e))
-inside n (inr (inl e)) = (omega (arith, e), omega (arith, e))
-inside n (inr (inr e)) = (omega (arith, e), omega (arith, e))
-
 module _ (l : ℕ) (b : List Bool) (p : ℕ) where
   pub info-text : (t : AprsType) → t ≡ kind.Text → p ≤ length b → readInfo l (typeNumber t) b (drop p b) ≡ text7Of b p
   unfolding readInfo pick
@@ -72,12 +66,12 @@ module _ (l : ℕ) (b : List Bool) (p : ℕ) where
 
   pub info-body : (t : AprsType) → OneOf (2 ∷ 3 ∷ 4 ∷ []) (tagOf the-type t) → readInfo l (typeNumber t) b (drop p b) ≡ readBody (typeNumber t) l (drop p b)
   unfolding readInfo pick
-  info-body kind.Text h = absurd (omega (arith, inside 0 h .0))
-  info-body kind.Binary h = absurd (omega (arith, inside 1 h .0))
+  info-body kind.Text h = absurd (omega (arith, own-place 0 h .0))
+  info-body kind.Binary h = absurd (omega (arith, own-place 1 h .0))
   info-body kind.Position h = refl
   info-body kind.TimestampedPosition h = refl
   info-body kind.Message h = refl
-  info-body kind.ThirdParty h = absurd (omega (arith, inside 5 h .1))
+  info-body kind.ThirdParty h = absurd (omega (arith, own-place 5 h .1))
 
 pub text7-reads : (o : Option (List ℕ)) (out : List ℕ) (to : ℕ) (e : List ℕ) (r : Got) → r ≡ text7Next to o → e ≡ text7Left out to o → Reads o out to e r
 unfolding text7Next text7Left

@@ -7,19 +7,17 @@ use mathlib.Core.Option.{Option, none, some, Option·none-ne-some, Option·some-
 use Prim.Native.Nat.{ℕ, zero, suc, _+_, _*_, _%_, _≤_, _<_, zero-le}
 use native.Mathlib.Omega.{arith}
 use lib.Dec.{eqb}
-use lib.ListN.{length, take, drop, getD, length-append, length-drop}
+use lib.ListN.{length, take, drop, getD, length-append}
 use borrow.Author.Tests.{ne-eqb, le-leb, lt-leb}
 use Rattle.laws.specs.Bits.{odd}
 use Rattle.laws.specs.Pick.{pick}
 use Rattle.laws.specs.Text.{ascii, starts}
 use Rattle.laws.specs.Wrote.{Wrote}
-use Rattle.laws.proofs.Cases.{by-test, by-le, from-some, pick-true, pick-false}
+use Rattle.laws.proofs.Cases.{by-test, from-some, pick-true, pick-false}
 use Rattle.laws.proofs.WroteLaws.{wrote-then, wrote-as}
 use Rattle.bits.specs.Read.{takeBits, taken}
-use Rattle.bits.specs.declared.read.Taken.{Taken}
 use Rattle.bits.specs.declared.read.Taken.the-variants.{Bits, Short}
-use Rattle.bits.proofs.ReadLaws.{take-yes, take-no}
-use Rattle.bits.proofs.TakenLaws.{told-short, told-bits}
+use Rattle.bits.proofs.TakenLaws.{told-short, told-bits, told-within}
 use Rattle.ax25_token.specs.Token.{readToken}
 use Rattle.ax25_address.specs.Kind.{typeNumber}
 use Rattle.ax25_address.specs.Parse.{splitOff, aliases, aliasCalls}
@@ -58,22 +56,6 @@ type-none v at a b c d e f =
     let past : 4 < v = above v 4 (above v 3 (above v 2 (above v 1 (above v 0 zero-le a) b) c) d) e in
     rw (lt-leb v 4 past, ne-eqb v 6 f)
 
--- the position of an answer, counted from 1
-place : Taken → ℕ
-place (Bits v q) = suc q
-place Short = 0
-
-told-within : (b : List Bool) (at n v q : ℕ) → 0 < n → taken (at + n) (takeBits n (drop at b)) ≡ Bits v q → q ≤ length b
-unfolding taken place
-told-within b at n v q h u =
-    by-le n (length (drop at b))
-    (λ k.
-    let e : suc (at + n) ≡ suc q = ap place (ap (taken (at + n)) (sym (take-yes n (drop at b) k)) ∙ u) in
-    omega (arith, e, k, h, length-drop at b))
-    (λ k.
-    let e : 0 ≡ suc q = ap place (ap (taken (at + n)) (sym (take-no n (drop at b) k)) ∙ u) in
-    absurd (omega (arith, e)))
-
 typed-by : (b : List Bool) (v p : ℕ) (x : Bool) (r : Typed) → typeIs r ≡ pick x (some (v, p)) none → p ≤ length b → Types b (pick x (some (v, drop p b)) none) r
 unfolding typeIs pick
 typed-by b v p true (Is t q) e h =
@@ -92,7 +74,7 @@ module _ (x : Bool) (b : List Bool) (at n : ℕ) (w : n ≡ typeWidth x) where
   pub type-read : 0 < n → (v p : ℕ) → taken (at + n) (takeBits n (drop at b)) ≡ Bits v p → (r : Typed) → typeIs r ≡ pick (known v) (some (v, p)) none
       → Types b (readType x (drop at b)) r
   unfolding readType
-  type-read h v p u r e = rw (← w, told-bits b at n v p u) (typed-by b v p (known v) r e (told-within b at n v p h u))
+  type-read h v p u r e = rw (← w, told-bits b at n v p u) (typed-by b v p (known v) r e (told-within b at n v p u h))
 
 -- ---- the parts of a head
 

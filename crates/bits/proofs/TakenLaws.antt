@@ -1,29 +1,35 @@
 -- What an answer of `take` or `text` says of the bits it was read from.
 -- Assumes nothing.
-use mathlib.Core.Path.{_≡_, refl, ap, _∙_}
+use mathlib.Core.Path.{_≡_, refl, sym, ap, _∙_}
 use mathlib.Core.Bool.{Bool, true, false}
 use mathlib.Core.List.{List, map}
 use mathlib.Core.Option.{Option, none, some, Option·some-injective, Option·none-ne-some}
-use Prim.Native.Nat.{ℕ, _+_, _^_, _≤_, _<_}
+use Prim.Native.Nat.{ℕ, suc, _+_, _^_, _≤_, _<_}
 use native.Mathlib.Nat.{lt-of-lt-of-le, pow-le-pow-right}
 use native.Mathlib.Omega.{arith}
-use lib.ListN.{length, take, drop, length-take, length-map}
+use lib.ListN.{length, take, drop, length-take, length-drop, length-map}
 use lib.Seq.{drop-drop}
 use lib.Dec.{leb}
 use Rattle.laws.specs.Bits.{valueOf}
 use Rattle.laws.specs.Pick.{pick}
 use Rattle.laws.proofs.BitLaws.{value-take-lt}
+use Rattle.laws.proofs.Cases.{by-le}
 use Rattle.bits.specs.Read.{takeBits, takeText, letter, taken}
 use Rattle.bits.specs.Val.{valOf}
 use Rattle.bits.specs.declared.read.Taken.{Taken}
 use Rattle.bits.specs.declared.read.Taken.the-variants.{Bits, Short}
-use Rattle.bits.proofs.ReadLaws.{letters-are}
+use Rattle.bits.proofs.ReadLaws.{letters-are, take-yes, take-no}
 use Rattle.bits.proofs.ValLaws.{val-lt}
 
 -- the number, and the bits from the next position on
 view : List Bool → Taken → Option (ℕ × List Bool)
 view b (Bits v q) = some (v, drop q b)
 view b Short = none
+
+-- the next position, counted from 1
+next : Taken → ℕ
+next (Bits v q) = suc q
+next Short = 0
 
 -- n bits from a position on are read as w
 abbrev Reads : List Bool → ℕ → ℕ → ℕ → Bool → Option (ℕ × List Bool)
@@ -50,6 +56,18 @@ module _ (b : List Bool) (at n : ℕ) where
     pub told-bits : takeBits n (drop at b) ≡ some (v, drop q b)
     unfolding view takeBits
     told-bits = is-view b at n (valueOf (take n (drop at b))) (leb n (length (drop at b))) ∙ ap (view b) e
+
+    -- the next position stands within the bits
+    pub told-within : 0 < n → q ≤ length b
+    unfolding taken next
+    told-within h =
+        by-le n (length (drop at b))
+        (λ k.
+        let f : suc (at + n) ≡ suc q = ap next (ap (taken (at + n)) (sym (take-yes n (drop at b) k)) ∙ e) in
+        omega (arith, f, k, h, length-drop at b))
+        (λ k.
+        let f : 0 ≡ suc q = ap next (ap (taken (at + n)) (sym (take-no n (drop at b) k)) ∙ e) in
+        absurd (omega (arith, f)))
 
     -- k bits or fewer
     pub told-small : (k : ℕ) → n ≤ k → v < 2 ^ k

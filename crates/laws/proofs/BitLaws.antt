@@ -1,7 +1,7 @@
 -- The bits of a number and the number of bits, for every width together.
 -- Assumes nothing.
 use mathlib.Core.Path.{_≡_, refl, sym, ap, ap₂, _∙_}
-use mathlib.Core.Bool.{Bool, true, false, not}
+use mathlib.Core.Bool.{Bool, true, false}
 use mathlib.Core.List.{List, [], _∷_, _++_}
 use Prim.Native.Nat.{ℕ, zero, suc, _+_, _*_, _/_, _%_, _^_, _≤_, _<_}
 use native.Mathlib.Nat.{zero-add, suc-add, add-comm, not-suc-le-zero, le-of-suc-le-suc, mod-eq-of-lt, mod-lt, pow-suc, mul-assoc, lt-of-lt-of-le}
@@ -12,9 +12,7 @@ use lib.Seq.{getD-at, take-suc}
 use lib.Dec.{eqb}
 use lib.Pow.{pow-mono, pow-pos, shr-shr, high, low, mod-pow-add, field, mod-mod-pow}
 use lib.Arith.{digits-lt}
-use borrow.Author.Tests.{eqb-true, eqb-false, eq-eqb, ne-eqb}
 use Rattle.laws.specs.Bits.{odd, num, bitsOf, valueOf}
-use Rattle.laws.proofs.Cases.{by-test}
 
 -- ---- one bit
 
@@ -41,14 +39,6 @@ num-lt false = omega arith
 pub odd-cong : (a b : ℕ) → a % 2 ≡ b % 2 → odd a ≡ odd b
 unfolding odd
 odd-cong a b e = ap (λ (r : ℕ). eqb r 1) e
-
--- one more is the opposite
-pub odd-more : (x : ℕ) → odd (1 + x) ≡ not (odd x)
-unfolding odd
-odd-more x =
-    by-test (eqb (x % 2) 1)
-    (λ e. let h = eqb-true (x % 2) 1 e in ne-eqb ((1 + x) % 2) 1 (λ q. omega arith) ∙ ap not (sym e))
-    (λ e. let h = eqb-false (x % 2) 1 e in eq-eqb ((1 + x) % 2) 1 (omega arith) ∙ ap not (sym e))
 
 -- ---- bits of a number
 

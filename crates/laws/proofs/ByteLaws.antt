@@ -6,8 +6,8 @@ use mathlib.Core.List.{List, [], _∷_, _++_, append-nil, append-assoc}
 use Prim.Native.Nat.{ℕ, zero, suc, _+_, _-_, _*_, _/_, _%_, _^_, _≤_, _<_, zero-le, suc-le-suc}
 use native.Mathlib.Nat.{zero-add, suc-add, not-suc-le-zero, le-of-suc-le-suc, mod-eq-of-lt, sub-zero, suc-sub-suc}
 use native.Mathlib.Omega.{arith}
-use lib.ListN.{length, getD, set, take, drop, replicate, length-append, length-drop, length-take, length-set, List·getD-append}
-use lib.Seq.{sets, take-at, drop-at, take-nil, drop-nil, take-append-add, drop-append-add, getD-append-add, getD-take, getD-drop, getD-set-same, getD-set-other}
+use lib.ListN.{length, getD, set, take, drop, replicate, length-append, length-set, List·getD-append}
+use lib.Seq.{sets, take-at, drop-at, drop-nil, drop-append-add, getD-append-add, getD-set-same, getD-set-other}
 use Rattle.laws.specs.Bits.{Bytes, odd, bitsOf, fit, packN, pack, unpack}
 use Rattle.laws.proofs.BitLaws.{length-bits, value-bits, value-lt, bits-value, getD-bits}
 use Rattle.laws.proofs.Cases.{by-eq}
@@ -99,14 +99,6 @@ unfolding unpack
 unpack-append [] t = refl
 unpack-append (x ∷ s) t = rw (unpack-append s t, append-assoc)
 
-pub unpack-take : (k : ℕ) (s : List ℕ) → unpack (take k s) ≡ take (k * 8) (unpack s)
-unfolding unpack
-unpack-take zero s = refl
-unpack-take (suc k) [] = rw take-nil
-unpack-take (suc k) (x ∷ s) =
-    let e : suc k * 8 ≡ length (bitsOf 8 x) + k * 8 = omega (arith, length-bits 8 x) in
-    rw (e, take-append-add (bitsOf 8 x) (unpack s) (k * 8), unpack-take k s)
-
 pub unpack-drop : (k : ℕ) (s : List ℕ) → unpack (drop k s) ≡ drop (k * 8) (unpack s)
 unfolding unpack
 unpack-drop zero s = refl
@@ -184,12 +176,6 @@ bytes-sets s i (x ∷ v) h k = bytes-sets (set s i x) (suc i) v (bytes-set s i x
 -- bytes whose bits were stored are stored
 pub bytes-stored : (s t : List ℕ) (i : ℕ) (v : List ℕ) → Bytes s → Bytes t → Bytes v → unpack t ≡ sets (unpack s) (i * 8) (unpack v) → t ≡ sets s i v
 bytes-stored s t i v hs ht hv e = unpack-inj t (sets s i v) ht (bytes-sets s i v hs hv) (e ∙ sym (sets-bits s i v))
-
-pub bytes-drop : (k : ℕ) (s : List ℕ) → Bytes s → Bytes (drop k s)
-bytes-drop k s h i l = rw (getD-drop k s i 0) (h (k + i) (omega (arith, length-drop k s)))
-
-pub bytes-take : (k : ℕ) (s : List ℕ) → Bytes s → Bytes (take k s)
-bytes-take k s h i l = rw (getD-take k s i 0 (omega (arith, length-take k s))) (h i (omega (arith, length-take k s)))
 
 bytes-packN : (n : ℕ) (b : List Bool) → Bytes (packN n b)
 unfolding packN

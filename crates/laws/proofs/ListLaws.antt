@@ -59,17 +59,11 @@ module _ {A : Type 0} where
   sets-take-suc l at vs i d h =
       rw (add-one i, take-suc vs i d h, sets-append l at (take i vs) (getD vs i d ∷ []), length-take-le i vs (omega arith))
 
-  -- what stands up to the end of a run of stores, and after it
+  -- what stands up to the end of a run of stores
   pub take-sets : (l : List A) (i : ℕ) (vs : List A) → i + length vs ≤ length l → take (i + length vs) (sets l i vs) ≡ take i l ++ vs
   take-sets l i vs h =
       rw (sets-eq vs l i h)
       (take-at (take i l ++ vs) (drop (i + length vs) l) (i + length vs)
-      (omega (arith, length-append (take i l) vs, length-take-le i l (omega arith))))
-
-  pub drop-sets : (l : List A) (i : ℕ) (vs : List A) → i + length vs ≤ length l → drop (i + length vs) (sets l i vs) ≡ drop (i + length vs) l
-  drop-sets l i vs h =
-      rw (sets-eq vs l i h)
-      (drop-at (take i l ++ vs) (drop (i + length vs) l) (i + length vs)
       (omega (arith, length-append (take i l) vs, length-take-le i l (omega arith))))
 
   -- what was stored stands there

@@ -85,15 +85,6 @@ starts-short w s h =
 
 -- ---- tables
 
-module _ (c n : List ℕ) (ns : List (List ℕ)) where
-  pub one-of-here : c ≡ n → isOneOf c (n ∷ ns) ≡ true
-  unfolding isOneOf
-  one-of-here e = rw (eq-same c n e)
-
-  pub one-of-next : (c ≡ n → ⊥) → isOneOf c (n ∷ ns) ≡ isOneOf c ns
-  unfolding isOneOf
-  one-of-next e = rw (ne-same c n e)
-
 -- a test over all texts of a table
 unfoldable pub each : (List ℕ → Bool) → List (List ℕ) → Bool
 each f [] = true

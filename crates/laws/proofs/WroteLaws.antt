@@ -5,7 +5,7 @@ use mathlib.Core.List.{List, [], _∷_, _++_}
 use Prim.Native.Nat.{ℕ, _+_, _≤_}
 use native.Mathlib.Omega.{arith}
 use lib.ListN.{length, set, length-append}
-use lib.Seq.{sets, length-sets}
+use lib.Seq.{sets}
 use Rattle.laws.specs.Wrote.{Wrote}
 use Rattle.laws.proofs.ListLaws.{sets-append, sets-out}
 
@@ -31,7 +31,3 @@ module _ {A : Type 0} where
   -- a write of something else that is the same
   pub wrote-as : {b : List A} {at : ℕ} {x y c : List A} {p : ℕ} → x ≡ y → Wrote b at x c p → Wrote b at y c p
   wrote-as e f = rw (← e) f
-
-  -- the list keeps its length
-  pub wrote-length : {b : List A} {at : ℕ} {x c : List A} {p : ℕ} → Wrote b at x c p → length c ≡ length b
-  wrote-length {b} {at} {x} f = rw (f .stored) (length-sets b at x)

@@ -7,9 +7,10 @@ use Prim.Native.Nat.{ℕ, zero, suc, _+_, _-_, _*_, _≤_, _<_}
 use native.Mathlib.Omega.{arith}
 use lib.ListN.{length, getD, take, drop}
 use lib.Seq.{drop-drop}
+use lib.Dec.{leb}
 use borrow.Author.Tests.{eq-eqb, ne-eqb, lt-ltb, le-ltb, le-leb, lt-leb}
 use Rattle.laws.specs.Pick.{pick}
-use Rattle.laws.proofs.Cases.{by-test, by-le}
+use Rattle.laws.proofs.Cases.{by-test, by-le, pick-true, pick-false}
 use Rattle.refusals.specs.Limits.{fieldOk, maskOk}
 use Rattle.refusals.specs.Outcome.{refused, answer, accepted}
 use Rattle.sender.specs.Send.{countOf, countFor, checkOf, leadOf, fragmentOf, mostOf, sendOf}
@@ -122,9 +123,11 @@ module _ (message : List ℕ) (field mask k : ℕ) where
         lt-ltb (mostOf mask) (countOf (length message) field) r,
       )
 
-  pub send-past : Sendable message field mask → countOf (length message) field ≤ k → sendOf message field mask k ≡ refused 13
+  -- what can be sent is refused by the fragment's number alone
+  send-by : Sendable message field mask
+      → sendOf message field mask k ≡ pick (leb (countOf (length message) field) k) (refused 13) (answer (fragmentOf message field mask k))
   unfolding sendOf pick
-  send-past s p =
+  send-by s =
       simp (
         s .field-ok,
         s .mask-ok,
@@ -132,22 +135,14 @@ module _ (message : List ℕ) (field mask k : ℕ) where
         le-ltb 5000 (length message) (s .short),
         lt-leb 128 (getD message 0 0) (s .first-low),
         le-ltb (mostOf mask) (countOf (length message) field) (s .room),
-        le-leb (countOf (length message) field) k p,
       )
+
+  pub send-past : Sendable message field mask → countOf (length message) field ≤ k → sendOf message field mask k ≡ refused 13
+  send-past s p = send-by s ∙ pick-true _ _ (le-leb (countOf (length message) field) k p)
 
   pub send-answer : Sendable message field mask → k < countOf (length message) field
       → sendOf message field mask k ≡ answer (fragmentOf message field mask k)
-  unfolding sendOf pick
-  send-answer s p =
-      simp (
-        s .field-ok,
-        s .mask-ok,
-        ne-eqb (length message) 0 (λ e. omega arith),
-        le-ltb 5000 (length message) (s .short),
-        lt-leb 128 (getD message 0 0) (s .first-low),
-        le-ltb (mostOf mask) (countOf (length message) field) (s .room),
-        lt-leb (countOf (length message) field) k p,
-      )
+  send-answer s p = send-by s ∙ pick-false _ _ (lt-leb (countOf (length message) field) k p)
 
 -- what is accepted for the first fragment is accepted for all of them
 pub send-accepted : (message : List ℕ) (field mask : ℕ) → accepted (sendOf message field mask 0) ≡ true → Sendable message field mask

@@ -1,6 +1,7 @@
 //! Data to code and messages to decode that are written down: every type, every refusal, and what document 01 leaves unsaid.
 
 use crate::MAX_DATA;
+use crate::messages::{LONGEST, MESSAGE, ThirdParty};
 use crate::random::Random;
 use xara_arq::ax25::token_encode;
 use xara_arq::bits::Bits;
@@ -641,12 +642,8 @@ fn last_runs(r: &mut Random) -> Vec<Vec<u8>> {
 /// The message whose data are the longest: ten calls of seven letters, a message of a third party, and a word of eight
 /// letters for every seven bits.
 pub fn largest() -> Vec<u8> {
-    let mut m = Message::new(0x5F, &["APVARA", "CQ"]);
-    m.push(1, 1).push(1, 3).push(6, 3).token("APVARA").token("APVARA").token("APVARA").push(2, 2).token("CQ");
-    while m.bits.len() + 7 <= 8 * (crate::MAX_MESSAGE - 1) {
-        m.push(3, 7);
-    }
-    m.pack()
+    let calls = ["APVARA", "CQ", "APVARA", "APVARA", "APVARA", "CQ"];
+    ThirdParty { heard: 0, calls, alias: 1, inner: MESSAGE }.message(crate::MAX_MESSAGE, || LONGEST)
 }
 
 /// The longest messages, and one byte more.

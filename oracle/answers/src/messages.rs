@@ -8,7 +8,9 @@ use xara_arq::bits::Bits;
 /// The header of a long frame with eight digipeaters and control and PID of 03 F0.
 const FULL: u8 = 0x5F;
 /// The code of the longest word, `PinPoint`.
-const LONGEST: u64 = 3;
+pub const LONGEST: u64 = 3;
+/// The number of a message among the inner types.
+pub const MESSAGE: u64 = 2;
 
 /// The message of some data; of data that is refused, the data itself.
 fn coded(r: &mut Random) -> Vec<u8> {
@@ -40,28 +42,47 @@ fn length(r: &mut Random) -> usize {
     r.below(1 + (MAX_MESSAGE >> halvings))
 }
 
+/// What stands in a third party's message before its text: the digipeaters' bits, six calls, the alias and the inner type.
+pub struct ThirdParty<'a> {
+    pub heard: u64,
+    pub calls: [&'a str; 6],
+    pub alias: u64,
+    pub inner: u64,
+}
+
+impl ThirdParty<'_> {
+    /// The message of n bytes with a text of such codes.
+    pub fn message(&self, n: usize, mut code: impl FnMut() -> u64) -> Vec<u8> {
+        let mut bits = Bits::default();
+        let calls = |bits: &mut Bits, calls: &[&str]| {
+            for call in calls {
+                token_encode(call, 7, bits).expect("a call that has a token");
+            }
+        };
+        bits.push(self.heard, 8);
+        calls(&mut bits, &self.calls[..2]);
+        bits.push(1, 1);
+        bits.push(self.alias, 3);
+        bits.push(6, 3);
+        calls(&mut bits, &self.calls[2..5]);
+        bits.push(self.inner, 2);
+        calls(&mut bits, &self.calls[5..]);
+        while bits.len() + 7 <= 8 * n.saturating_sub(1) {
+            bits.push(code(), 7);
+        }
+        let mut message = [&[FULL], &bits.pack()[..]].concat();
+        message.truncate(n);
+        message
+    }
+}
+
 /// A message of n bytes, a third party's, with a text of words; of `PinPoint` alone it has the most to decode.
 pub fn words(r: &mut Random, n: usize, longest: bool) -> Vec<u8> {
-    let mut bits = Bits::default();
-    let calls = |bits: &mut Bits, n: usize| {
-        for _ in 0..n {
-            token_encode("APBPQ1", 7, bits).expect("has a token of its own");
-        }
-    };
-    bits.push(r.number(), 8);
-    calls(&mut bits, 2);
-    bits.push(1, 1);
-    bits.push(1 + r.below(5) as u64, 3);
-    bits.push(6, 3);
-    calls(&mut bits, 3);
-    bits.push(if longest { 2 } else { r.number() }, 2);
-    calls(&mut bits, 1);
-    while bits.len() + 7 <= 8 * n.saturating_sub(1) {
-        bits.push(if longest { LONGEST } else { r.below(12) as u64 }, 7);
-    }
-    let mut message = [&[FULL], &bits.pack()[..]].concat();
-    message.truncate(n);
-    message
+    let heard = r.number();
+    let alias = 1 + r.below(5) as u64;
+    let inner = if longest { MESSAGE } else { r.number() };
+    let party = ThirdParty { heard, calls: ["APBPQ1"; 6], alias, inner };
+    party.message(n, || if longest { LONGEST } else { r.below(12) as u64 })
 }
 
 /// A message to decode, at times one that is too long.

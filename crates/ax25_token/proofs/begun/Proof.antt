@@ -4,8 +4,6 @@ use mathlib.Core.Path.{refl}
 use Rattle.ax25_token.specs.Call.{appended}
 use Rattle.ax25_token.proofs.begun.Statement.{statement}
 use Rattle.ax25_token.proofs.begun.Tie as tie
-use Rattle.ax25_token.proofs.begun.Reads as reads
-use Rattle.ax25_token.proofs.begun.Lts as lts
 
 returns : tie.Need-returns
 unfolding appended

@@ -6,11 +6,6 @@ use Rattle.ax25_token.proofs.Cases.{form-wide, form-pair, form-apin, fo
 use Rattle.ax25_token.proofs.TokenWays.{fixed-form, named-pair, named-number, named-fixed}
 use Rattle.ax25_token.proofs.named.Statement.{statement}
 use Rattle.ax25_token.proofs.named.Tie as tie
-use Rattle.ax25_token.proofs.named.Reads as reads
-use Rattle.ax25_token.proofs.named.Lts as lts
-use Rattle.ax25_token.proofs.name.Reads as name-reads
-use Rattle.ax25_token.proofs.number.Reads as number-reads
-use Rattle.ax25_token.proofs.pair.Reads as pair-reads
 
 name-requires : tie.Need-name-requires
 name-requires c κs = search needs

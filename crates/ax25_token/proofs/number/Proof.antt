@@ -7,11 +7,6 @@ use Rattle.bits.proofs.TakenLaws.{told-small}
 use Rattle.ax25_token.proofs.ReaderWays.{number-none, number-some}
 use Rattle.ax25_token.proofs.number.Statement.{statement}
 use Rattle.ax25_token.proofs.number.Tie as tie
-use Rattle.ax25_token.proofs.number.Reads as reads
-use Rattle.ax25_token.proofs.number.Lts as lts
-use Rattle.bits.proofs.read.take.Reads as take-reads
-use Rattle.ax25_token.proofs.nothing.Reads as nothing-reads
-use Rattle.ax25_token.proofs.two_digits.Reads as two-digits-reads
 
 take-requires : tie.Need-take-requires
 take-requires c κs = search needs

@@ -8,13 +8,6 @@ use Rattle.ax25_token.specs.Token.{wideNumber}
 use Rattle.ax25_token.proofs.ReaderWays.{no-digit, no-number, with-pair}
 use Rattle.ax25_token.proofs.pair.Statement.{statement}
 use Rattle.ax25_token.proofs.pair.Tie as tie
-use Rattle.ax25_token.proofs.pair.Reads as reads
-use Rattle.ax25_token.proofs.pair.Lts as lts
-use Rattle.bits.proofs.read.bit.Reads as bit-reads
-use Rattle.ax25_token.proofs.nothing.Reads as nothing-reads
-use Rattle.ax25_token.proofs.push.Reads as push-reads
-use Rattle.ax25_token.proofs.suffixed.Reads as suffixed-reads
-use Rattle.ax25_token.proofs.wide_number.Reads as wide-number-reads
 
 bit-requires : tie.Need-bit-requires
 bit-requires c κs = search needs

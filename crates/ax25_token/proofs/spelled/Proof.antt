@@ -9,12 +9,6 @@ use Rattle.bits.proofs.TakenLaws.{told-small}
 use Rattle.ax25_token.proofs.ReaderWays.{no-letters, no-ssid, with-ssid}
 use Rattle.ax25_token.proofs.spelled.Statement.{statement}
 use Rattle.ax25_token.proofs.spelled.Tie as tie
-use Rattle.ax25_token.proofs.spelled.Reads as reads
-use Rattle.ax25_token.proofs.spelled.Lts as lts
-use Rattle.bits.proofs.read.take.Reads as take-reads
-use Rattle.ax25_token.proofs.letters.Reads as letters-reads
-use Rattle.ax25_token.proofs.nothing.Reads as nothing-reads
-use Rattle.ax25_token.proofs.suffixed.Reads as suffixed-reads
 
 letters-requires : tie.Need-letters-requires
 letters-requires c κs = search needs

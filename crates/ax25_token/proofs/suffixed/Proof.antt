@@ -5,10 +5,6 @@ use native.Mathlib.Omega.{arith}
 use Rattle.ax25_token.proofs.CallLaws.{append-none, append-one, append-two}
 use Rattle.ax25_token.proofs.suffixed.Statement.{statement}
 use Rattle.ax25_token.proofs.suffixed.Tie as tie
-use Rattle.ax25_token.proofs.suffixed.Reads as reads
-use Rattle.ax25_token.proofs.suffixed.Lts as lts
-use Rattle.ax25_token.proofs.push.Reads as push-reads
-use Rattle.ax25_token.proofs.two_digits.Reads as two-digits-reads
 
 returns : tie.Need-returns
 returns c = (append-none _ _ (c .if1 .taken), omega arith)

@@ -6,15 +6,6 @@ use native.Mathlib.Omega.{arith}
 use Rattle.ax25_token.proofs.TokenWays.{no-index, by-name, by-letters, by-ap, by-none}
 use Rattle.ax25_token.proofs.token_decode.Statement.{statement}
 use Rattle.ax25_token.proofs.token_decode.Tie as tie
-use Rattle.ax25_token.proofs.token_decode.Reads as reads
-use Rattle.ax25_token.proofs.token_decode.Lts as lts
-use Rattle.bits.proofs.read.take.Reads as take-reads
-use Rattle.ax25_token.proofs.begun.Reads as begun-reads
-use Rattle.ax25_token.proofs.first.Reads as first-reads
-use Rattle.ax25_token.proofs.letters.Reads as letters-reads
-use Rattle.ax25_token.proofs.named.Reads as named-reads
-use Rattle.ax25_token.proofs.nothing.Reads as nothing-reads
-use Rattle.ax25_token.proofs.spelled.Reads as spelled-reads
 
 take-requires : tie.Need-take-requires
 take-requires c κs = search needs

@@ -5,9 +5,6 @@ use native.Mathlib.Omega.{arith}
 use Rattle.ax25_token.proofs.CallLaws.{append-digits}
 use Rattle.ax25_token.proofs.two_digits.Statement.{statement}
 use Rattle.ax25_token.proofs.two_digits.Tie as tie
-use Rattle.ax25_token.proofs.two_digits.Reads as reads
-use Rattle.ax25_token.proofs.two_digits.Lts as lts
-use Rattle.ax25_token.proofs.push.Reads as push-reads
 
 add-push : tie.Need-add-push
 add-push c = search needs

@@ -4,9 +4,6 @@ use borrow.Author.Needs.{needs}
 use Rattle.ax25_token.specs.Token.{wideNumber}
 use Rattle.ax25_token.proofs.wide_number.Statement.{statement}
 use Rattle.ax25_token.proofs.wide_number.Tie as tie
-use Rattle.ax25_token.proofs.wide_number.Reads as reads
-use Rattle.ax25_token.proofs.wide_number.Lts as lts
-use Rattle.bits.proofs.read.text.Reads as text-reads
 
 returns : tie.Need-returns
 unfolding wideNumber

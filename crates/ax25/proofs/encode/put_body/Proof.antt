@@ -2,18 +2,22 @@
 -- Assumes nothing.
 use native.Mathlib.Omega.{arith}
 use mathlib.Core.Path.{_≡_, ap}
-use Prim.Native.Nat.{ℕ, _+_, _≤_}
+use Prim.Native.Nat.{ℕ, _+_, _*_, _≤_}
+use lib.ListN.{length}
 use lib.Dec.{eqb}
 use mathlib.Core.Bool.{_&&_}
+use mathlib.Core.List.{List}
+use mathlib.Core.Option.{some}
 use denote.Ref.{now}
 use Rattle.ax25_address.specs.declared.record.Record.{Record}
 use Rattle.ax25_address.specs.declared.classify.AprsType.{AprsType}
 use Rattle.ax25_address.specs.declared.classify.AprsType.the-variants.{ThirdParty}
 use Rattle.laws.specs.Pick.{pick}
 use Rattle.ax25_address.specs.Kind.{typeNumber}
-use Rattle.ax25_address.specs.Record.{recordOf}
+use Rattle.ax25_address.specs.Parse.{parseOf}
+use Rattle.ax25_address.specs.Record.{recordOf, seenOf}
 use Rattle.ax25_address.proofs.DigiLaws.{end-size}
-use Rattle.ax25_address.proofs.RecordLaws.{known}
+use Rattle.ax25_address.proofs.RecordLaws.{Known, known}
 use Rattle.ax25.proofs.InfoLaws.{own-type, typed-room, start-room, text-does, binary-does, third-does, own-does}
 use borrow.Author.Needs.{needs}
 use Rattle.ax25.proofs.encode.put_body.Statement.{statement}
@@ -27,21 +31,31 @@ at-end r end start e f = rw (← e) f
 third-more : (t : AprsType) → t ≡ ThirdParty → 2 ≤ typeNumber t
 third-more t e = rw e (omega arith)
 
+-- where the parts of a frame that has a record stand
+module _ (command l : ℕ) (d : List ℕ) (r : Record) (is : some (recordOf r) ≡ seenOf command (parseOf l d)) where
+  abbrev seen : Known command l d (recordOf r)
+  seen = known command l d (recordOf r) is
+
+  start-within : (end start : ℕ) → end ≡ (r .digis + 2) * (l + 1) → start ≡ pick (eqb (r .ctrl) 0x03 && eqb (r .pid) 0xF0) (end + 2) end → start ≤ length d
+  start-within end start e f = start-room command l d (recordOf r) seen start (at-end r end start e f)
+
+  end-small : (end : ℕ) → l ≤ 7 → end ≡ (r .digis + 2) * (l + 1) → end ≤ 80
+  end-small end h e = omega (arith, e, end-size (r .digis) l (seen .few) h)
+
+  typed-within : (end : ℕ) → 2 ≤ typeNumber (r .«aprs_type») → end ≡ (r .digis + 2) * (l + 1) → end + 3 ≤ length d
+  typed-within end h e = omega (arith, e, typed-room command l d (recordOf r) seen h)
+
 addr-end-requires : tie.Need-addr-end-requires
 addr-end-requires c κs =
     let start = c .before .before in
     let a = start .args in
-    let d = now (a .frame) in
-    let k = known (a .command) (a .l) d (recordOf (a .r)) (start .pre .4) in
-    (k .few, start .pre .1)
+    (seen (a .command) (a .l) (now (a .frame)) (a .r) (start .pre .4) .few, start .pre .1)
 
 body-start-requires : tie.Need-body-start-requires
 body-start-requires c κs =
     let start = c .before .before .before in
     let a = start .args in
-    let d = now (a .frame) in
-    let k = known (a .command) (a .l) d (recordOf (a .r)) (start .pre .4) in
-    omega (arith, c .addr-end .ensures, end-size (a .r .digis) (a .l) (k .few) (start .pre .1))
+    omega (arith, end-small (a .command) (a .l) (now (a .frame)) (a .r) (start .pre .4) _ (start .pre .1) (c .addr-end .ensures))
 
 enum-told : tie.Need-enum-told
 enum-told c = search needs
@@ -50,21 +64,10 @@ sub-push-text7 : tie.Need-sub-push-text7
 sub-push-text7 c =
     let start = c .before .before .before .before .before .before .before in
     let a = start .args in
-    let d = now (a .frame) in
-    let k = known (a .command) (a .l) d (recordOf (a .r)) (start .pre .4) in
-    let e = c .before .before .before .before .addr-end in
-    let s = c .before .before .before .body-start in
-    start-room (a .command) (a .l) d (recordOf (a .r)) k (s .result) (at-end (a .r) _ _ (e .ensures) (s .ensures))
+    start-within (a .command) (a .l) (now (a .frame)) (a .r) (start .pre .4) _ _ (c .before .before .before .before .addr-end .ensures) (c .before .before .before .body-start .ensures)
 
 part-push-text7-start : tie.Need-part-push-text7-start
-part-push-text7-start c =
-    let start = c .before .before .before .before .before .before .before in
-    let a = start .args in
-    let d = now (a .frame) in
-    let k = known (a .command) (a .l) d (recordOf (a .r)) (start .pre .4) in
-    let e = c .before .before .before .before .addr-end in
-    let s = c .before .before .before .body-start in
-    start-room (a .command) (a .l) d (recordOf (a .r)) k (s .result) (at-end (a .r) _ _ (e .ensures) (s .ensures))
+part-push-text7-start c = sub-push-text7 c
 
 part-push-text7-end : tie.Need-part-push-text7-end
 part-push-text7-end c = search needs
@@ -79,21 +82,10 @@ sub-push-bytes : tie.Need-sub-push-bytes
 sub-push-bytes c =
     let start = c .before .before .before .before .before .before .before in
     let a = start .args in
-    let d = now (a .frame) in
-    let k = known (a .command) (a .l) d (recordOf (a .r)) (start .pre .4) in
-    let e = c .before .before .before .before .addr-end in
-    let s = c .before .before .before .body-start in
-    start-room (a .command) (a .l) d (recordOf (a .r)) k (s .result) (at-end (a .r) _ _ (e .ensures) (s .ensures))
+    start-within (a .command) (a .l) (now (a .frame)) (a .r) (start .pre .4) _ _ (c .before .before .before .before .addr-end .ensures) (c .before .before .before .body-start .ensures)
 
 part-push-bytes-start : tie.Need-part-push-bytes-start
-part-push-bytes-start c =
-    let start = c .before .before .before .before .before .before .before in
-    let a = start .args in
-    let d = now (a .frame) in
-    let k = known (a .command) (a .l) d (recordOf (a .r)) (start .pre .4) in
-    let e = c .before .before .before .before .addr-end in
-    let s = c .before .before .before .body-start in
-    start-room (a .command) (a .l) d (recordOf (a .r)) k (s .result) (at-end (a .r) _ _ (e .ensures) (s .ensures))
+part-push-bytes-start c = sub-push-bytes c
 
 part-push-bytes-end : tie.Need-part-push-bytes-end
 part-push-bytes-end c = search needs
@@ -108,31 +100,16 @@ add-third-encode : tie.Need-add-third-encode
 add-third-encode c =
     let start = c .before .before .before .before .before .before in
     let a = start .args in
-    let d = now (a .frame) in
-    let k = known (a .command) (a .l) d (recordOf (a .r)) (start .pre .4) in
-    let e = c .before .before .before .addr-end .ensures in
-    let room = typed-room (a .command) (a .l) d (recordOf (a .r)) k (third-more _ (c .enum-told3 .given .1)) in
-    omega (arith, e, end-size (a .r .digis) (a .l) (k .few) (start .pre .1))
+    omega (arith, end-small (a .command) (a .l) (now (a .frame)) (a .r) (start .pre .4) _ (start .pre .1) (c .before .before .before .addr-end .ensures))
 
 sub-third-encode : tie.Need-sub-third-encode
 sub-third-encode c =
     let start = c .before .before .before .before .before .before in
     let a = start .args in
-    let d = now (a .frame) in
-    let k = known (a .command) (a .l) d (recordOf (a .r)) (start .pre .4) in
-    let e = c .before .before .before .addr-end .ensures in
-    let room = typed-room (a .command) (a .l) d (recordOf (a .r)) k (third-more _ (c .enum-told3 .given .1)) in
-    omega (arith, e, room)
+    typed-within (a .command) (a .l) (now (a .frame)) (a .r) (start .pre .4) _ (third-more _ (c .enum-told3 .given .1)) (c .before .before .before .addr-end .ensures)
 
 part-third-encode-start : tie.Need-part-third-encode-start
-part-third-encode-start c =
-    let start = c .before .before .before .before .before .before in
-    let a = start .args in
-    let d = now (a .frame) in
-    let k = known (a .command) (a .l) d (recordOf (a .r)) (start .pre .4) in
-    let e = c .before .before .before .addr-end .ensures in
-    let room = typed-room (a .command) (a .l) d (recordOf (a .r)) k (third-more _ (c .enum-told3 .given .1)) in
-    omega (arith, e, room)
+part-third-encode-start c = sub-third-encode c
 
 part-third-encode-end : tie.Need-part-third-encode-end
 part-third-encode-end c = search needs
@@ -144,31 +121,16 @@ add-aprs-encode : tie.Need-add-aprs-encode
 add-aprs-encode c =
     let start = c .before .before .before .before .before in
     let a = start .args in
-    let d = now (a .frame) in
-    let k = known (a .command) (a .l) d (recordOf (a .r)) (start .pre .4) in
-    let e = c .before .before .addr-end .ensures in
-    let room = typed-room (a .command) (a .l) d (recordOf (a .r)) k (own-type (a .r .«aprs_type») (c .match .keys4) .more) in
-    omega (arith, e, end-size (a .r .digis) (a .l) (k .few) (start .pre .1))
+    omega (arith, end-small (a .command) (a .l) (now (a .frame)) (a .r) (start .pre .4) _ (start .pre .1) (c .before .before .addr-end .ensures))
 
 sub-aprs-encode : tie.Need-sub-aprs-encode
 sub-aprs-encode c =
     let start = c .before .before .before .before .before in
     let a = start .args in
-    let d = now (a .frame) in
-    let k = known (a .command) (a .l) d (recordOf (a .r)) (start .pre .4) in
-    let e = c .before .before .addr-end .ensures in
-    let room = typed-room (a .command) (a .l) d (recordOf (a .r)) k (own-type (a .r .«aprs_type») (c .match .keys4) .more) in
-    omega (arith, e, room)
+    typed-within (a .command) (a .l) (now (a .frame)) (a .r) (start .pre .4) _ (own-type (a .r .«aprs_type») (c .match .keys4) .more) (c .before .before .addr-end .ensures)
 
 part-aprs-encode-start : tie.Need-part-aprs-encode-start
-part-aprs-encode-start c =
-    let start = c .before .before .before .before .before in
-    let a = start .args in
-    let d = now (a .frame) in
-    let k = known (a .command) (a .l) d (recordOf (a .r)) (start .pre .4) in
-    let e = c .before .before .addr-end .ensures in
-    let room = typed-room (a .command) (a .l) d (recordOf (a .r)) k (own-type (a .r .«aprs_type») (c .match .keys4) .more) in
-    omega (arith, e, room)
+part-aprs-encode-start c = sub-aprs-encode c
 
 part-aprs-encode-end : tie.Need-part-aprs-encode-end
 part-aprs-encode-end c = search needs

@@ -5,11 +5,12 @@ use mathlib.Core.Path.{refl, sym, _∙_}
 use lib.ListN.{drop}
 use denote.Ref.{now}
 use Rattle.laws.specs.Bits.{unpack}
-use Rattle.bits.proofs.TakenLaws.{told-short, told-bits, told-small}
+use Rattle.laws.proofs.ByteLaws.{length-unpack}
+use Rattle.bits.proofs.TakenLaws.{told-short, told-bits, told-within, told-small}
 use Rattle.ax25_aprs.specs.Body.{readBody}
 use Rattle.ax25_aprs.specs.Third.{innerType}
 use Rattle.ax25_aprs.proofs.PartLaws.{reads-then}
-use Rattle.ax25_body.proofs.ThirdLaws.{taken-within, inner-none, inner-some}
+use Rattle.ax25_body.proofs.ThirdLaws.{inner-none, inner-some}
 use borrow.Author.Needs.{needs}
 use Rattle.ax25_body.proofs.third.inner_decode.Statement.{statement}
 use Rattle.ax25_body.proofs.third.inner_decode.Tie as tie
@@ -43,8 +44,8 @@ inner-type-requires c κs =
 aprs-decode-requires : tie.Need-aprs-decode-requires
 aprs-decode-requires c κs =
     let a = c .before .before .before .before .before .before .before .before .before .before .before .before .before .args in
-    let t = taken-within (now (a .s)) (a .at) 2 _ _ (omega arith) (sym (c .before .before .before .before .before .before .before .before .before .before .take .ensures) ∙ c .before .before .before .before .before .before .before .before .k .given .1) in
-    omega (arith, t, c .before .before .before .before .copy .ensures .next-is)
+    let t = told-within (unpack (now (a .s))) (a .at) 2 _ _ (sym (c .before .before .before .before .before .before .before .before .before .before .take .ensures) ∙ c .before .before .before .before .before .before .before .before .k .given .1) (omega arith) in
+    omega (arith, t, length-unpack (now (a .s)), c .before .before .before .before .copy .ensures .next-is)
 
 same-length : tie.Need-same-length
 same-length c = search needs

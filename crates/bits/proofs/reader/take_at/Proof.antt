@@ -14,14 +14,13 @@ use prog.Memory.{Memory}
 use prog.Routine.{Routine}
 use prog.Wp.{Heap, Calls, Loops, WpFn, Tables}
 use ghost.Atoms.{Atoms, sem}
-use contract.Lifetimes.{Lfts}
 use contract.Monad.{Fun, fact}
 use contract.Running.{givenOf, tables, tablesOf}
 use types.Kit.{Given, ‵, raw, _⊛_, ⋆, some, later, _$_, _∵_, !, qed, by, move, drop, use1, use2, split, pick, fsplit, fjoin, suffices, frame, await, done}
 use types.Part.{agg}
 use types.Run.{look, init, forget, stop, from, load, and-then, no-more, assigns, land, returns, enter, alloc1, alloc0, params1, pass1, pass0, free1, free0}
 use sound.WpLaws.{FmC, fmOf, WpFn-mono}
-use denote.RattleType.{RattleType, owns}
+use denote.RattleType.{owns}
 use denote.Laws.{Is, shows}
 use denote.Builtin.{u8, usize}
 use denote.Plain.{uint-vals, uint-tells, uint-makes}
@@ -43,6 +42,7 @@ use Rattle.laws.specs.Bits.{unpack}
 use Rattle.bits.specs.Read.{takeBits, taken}
 use Rattle.bits.specs.declared.reader.Reader.{Reader}
 use Rattle.bits.specs.declared.read.Taken.{Taken}
+use Rattle.bits.proofs.ReaderWays.{B}
 use Rattle.bits.proofs.reader.Reader as T
 use Rattle.bits.proofs.reader.Reader.Laws as T′
 use Rattle.bits.proofs.read.Taken as S
@@ -55,10 +55,6 @@ use Rattle.bits.proofs.reader.take_at.Key.{name as #bits·take-at}
 use Rattle.bits.proofs.reader.take_at as take-at
 use Rattle.bits.proofs.reader.take_at.Statement as stated
 use Rattle.bits.proofs.reader.take_at.Code as code
-
--- the struct's type, over the signature's lifetimes
-abbrev B : Lfts 1 → RattleType
-B κs = T.the-row (namedLft 1 0 tt κs)
 
 abbrev stayed : Stays (take-at.ended .signature .params) (take-at.ended .kept)
 stayed = (stay-none-slice (0 ∷ []) tt (plain (λ _. u8)) yes, (stay-none (λ _. usize) yes, (stay-none (λ _. usize) yes, tt)))
