@@ -57,16 +57,6 @@ was-refused (answer x) b at c n h =
     let z : _≡_ {A = ℕ} 0 1 = cc in
     absurd (omega arith)
 
--- a part, and then the next
-pub does-both : (o q : Outcome (List Bool)) (b : List Bool) (at : ℕ) (c : List Bool) (p : ℕ) (d : List Bool) (r : Part)
-    → Does o b at c (Next p) → Does q c p d r → Does (o then q) b at d r
-does-both o q b at c p d r h k = let f = done o b at c p h in rw (f .is-coded) (does-then (f .wrote) q d r k)
-
--- the first refusal counts
-pub does-first : (o q : Outcome (List Bool)) (b : List Bool) (at : ℕ) (c : List Bool) (n : ℕ) (d : List Bool)
-    → Does o b at c (Refused n) → Does (o then q) b at d (Refused n)
-does-first o q b at c n d h = rw (was-refused o b at c n h) refl
-
 -- bits before those of a text
 pub refused-joined : (n : ℕ) (x : List Bool) (y : Option (List Bool)) → orRefused n (joined (some x) y) ≡ (answer x then orRefused n y)
 unfolding joined before

@@ -29,8 +29,8 @@ const NAMES: [u8; 90] =
 // Makes the call of a line again and compares the answers.
 pub fn run(kind: usize, line: &[u8]) -> Outcome {
     match kind {
-        1 => push(line),
-        2 => bfi(line),
+        1 => push(line, false),
+        2 => push(line, true),
         8 => count(line),
         11 => histories::history(line),
         _ => plain(kind, line),
@@ -149,29 +149,21 @@ fn crc(data: &[u8], answer: &[u8]) -> Outcome {
     same_bytes(answer, &[(c / 256) as u8, (c % 256) as u8])
 }
 
-// push V AT W N HEX: V in AT bits, then the low N bits of W
-fn push(line: &[u8]) -> Outcome {
+// push V AT W N HEX: V in AT bits, then the low N bits of W. bfi V AT W N HEX: the highest N instead, and N is not 0
+fn push(line: &[u8], highest: bool) -> Outcome {
     let r = two_words(line);
     if !r.good {
         return Outcome::Bad;
     }
     let mut out = [0u8; 16];
     let mid = bits::write::push(&mut out, 0, r.v, r.at);
-    let end = (bits::write::push(&mut out, mid, r.w, r.n) + 7) / 8;
-    same_bytes(field(line, 5), &out[0..end])
-}
-
-// bfi V AT W N HEX: V in AT bits, then the highest N bits of W
-fn bfi(line: &[u8]) -> Outcome {
-    let r = two_words(line);
-    if !r.good {
-        return Outcome::Bad;
+    if !highest {
+        let end = (bits::write::push(&mut out, mid, r.w, r.n) + 7) / 8;
+        return same_bytes(field(line, 5), &out[0..end]);
     }
     if r.n == 0 {
         return Outcome::Bad;
     }
-    let mut out = [0u8; 16];
-    let mid = bits::write::push(&mut out, 0, r.v, r.at);
     let end = (bits::write::push_bfi(&mut out, mid, r.w, r.n) + 7) / 8;
     same_bytes(field(line, 5), &out[0..end])
 }
