@@ -4,13 +4,15 @@ use mathlib.Core.Path.{_≡_, refl, sym, ap, _∙_}
 use mathlib.Core.Bool.{Bool}
 use mathlib.Core.List.{List, [], _∷_, _++_}
 use Prim.Native.Nat.{ℕ, zero, suc, _+_, _-_, _*_, _/_, _%_, _^_, _≤_, _<_}
-use native.Mathlib.Nat.{zero-add, suc-add, le-of-suc-le-suc, not-suc-le-zero}
+use native.Mathlib.Nat.{zero-add, add-zero, suc-add, mod-lt, mul-mod-left}
 use native.Mathlib.Omega.{arith}
 use lib.ListN.{length, getD, take, drop, length-drop}
+use lib.Arith.{digits-lt}
+use lib.Pow.{mod-pow-add, pow-add, pow-pos, shl-shr}
 use lib.Seq.{drop-cons, drop-drop, take-add, take-at, drop-at, take-nil, take-take, length-take-le, sets}
 use Rattle.laws.specs.Bits.{bitsOf, valueOf, unpack}
 use Rattle.laws.specs.Wrote.{Wrote}
-use Rattle.laws.proofs.BitLaws.{length-bits, value-bits, bits-append, bits-join}
+use Rattle.laws.proofs.BitLaws.{length-bits, value-bits, bits-append, bits-join, bits-mod}
 use Rattle.laws.proofs.ByteLaws.{unpack-drop}
 use Rattle.laws.proofs.ListLaws.{sets-out}
 use Rattle.bits.specs.Text7.{unsevens}
@@ -30,6 +32,17 @@ pub bytes-join : (s : List ℕ) (i m n a : ℕ) {b : ℕ} → bitsOf (m * 8) a �
 bytes-join s i m n a e f h =
     let p : (i + m) * 8 ≡ i * 8 + m * 8 = omega arith in
     rw (bits-join (m * 8) (n * 8) a h, e, f, p, ← drop-drop (m * 8) (i * 8) (unpack s), take-add (m * 8) (n * 8) (drop (i * 8) (unpack s)))
+
+-- what is shifted past m + n bits is lost
+shifted : (m n a : ℕ) → a * 2 ^ n % 2 ^ (m + n) ≡ a % 2 ^ m * 2 ^ n
+shifted m n a = rw (mod-pow-add (a * 2 ^ n) m n, shl-shr a n, mul-mod-left a (2 ^ n)) (add-zero (a % 2 ^ m * 2 ^ n))
+
+-- m bits in front of n by a shift
+pub shift-lt : (m n a : ℕ) {b : ℕ} → b < 2 ^ n → a * 2 ^ n % 2 ^ (m + n) + b < 2 ^ (m + n)
+shift-lt m n a h = rw (shifted m n a, pow-add 2 m n) (digits-lt (mod-lt a (pow-pos m)) h)
+
+pub shift-join : (m n a : ℕ) {b : ℕ} → b < 2 ^ n → bitsOf (m + n) (a * 2 ^ n % 2 ^ (m + n) + b) ≡ bitsOf m a ++ bitsOf n b
+shift-join m n a h = rw (shifted m n a, bits-join m n (a % 2 ^ m) h, bits-mod m a)
 
 -- ---- a part of a word
 

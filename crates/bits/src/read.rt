@@ -71,7 +71,7 @@ fn four(s: &[u8], i: usize) -> u64
 }
 
 // Eight.
-fn word(s: &[u8], i: usize) -> u64
+pub(crate) fn word(s: &[u8], i: usize) -> u64
     requires { ⌜ i + 8 ≤ length (now s) ⌝ }
     ensures { λ r. ⌜ bitsOf 64 r ≡ take 64 (drop (i * 8) (unpack (now (s .entry)))) ⌝ }
 {

@@ -50,7 +50,7 @@ unfolding unpack
 length-unpack [] = refl
 length-unpack (x ∷ s) = rw (length-append, length-bits, length-unpack s) (omega arith)
 
-length-packN : (k : ℕ) (b : List Bool) → length (packN k b) ≡ k
+pub length-packN : (k : ℕ) (b : List Bool) → length (packN k b) ≡ k
 unfolding packN
 length-packN zero b = refl
 length-packN (suc k) b = ap suc (length-packN k (drop 8 b))
@@ -59,7 +59,7 @@ pub length-pack : (b : List Bool) → length (pack b) ≡ (length b + 7) / 8
 unfolding pack
 length-pack b = length-packN ((length b + 7) / 8) b
 
-unpack-packN : (k : ℕ) (b : List Bool) → unpack (packN k b) ≡ fit (k * 8) b
+pub unpack-packN : (k : ℕ) (b : List Bool) → unpack (packN k b) ≡ fit (k * 8) b
 unfolding unpack packN fit
 unpack-packN zero b = refl
 unpack-packN (suc k) b =
@@ -191,7 +191,7 @@ bytes-drop k s h i l = rw (getD-drop k s i 0) (h (k + i) (omega (arith, length-d
 pub bytes-take : (k : ℕ) (s : List ℕ) → Bytes s → Bytes (take k s)
 bytes-take k s h i l = rw (getD-take k s i 0 (omega (arith, length-take k s))) (h i (omega (arith, length-take k s)))
 
-bytes-packN : (n : ℕ) (b : List Bool) → Bytes (packN n b)
+pub bytes-packN : (n : ℕ) (b : List Bool) → Bytes (packN n b)
 unfolding packN
 bytes-packN zero b j l = absurd (not-suc-le-zero l)
 bytes-packN (suc n) b zero l = rw (length-fit 8 b) at (value-lt (fit 8 b))
