@@ -98,11 +98,6 @@ block-on d l q p o n a y z t more e f g =
 
 -- ---- the bits in front
 
-pub first-lt : (x : ℕ) {o : ℕ} → o ≤ 8 → x < 256 → x / 2 ^ (8 - o) < 2 ^ o
-first-lt x {o} h k =
-    let e : o + (8 - o) ≡ 8 = omega arith in
-    shr-lt o (8 - o) (rw e k)
-
 -- the first o bits of byte i are there already
 pub first-there : (s : List ℕ) (i o : ℕ) → o ≤ 8 → i < length s → sets (unpack s) (i * 8) (bitsOf o (getD s i 0 / 2 ^ (8 - o))) ≡ unpack s
 first-there s i o h k =
