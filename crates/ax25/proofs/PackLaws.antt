@@ -2,15 +2,14 @@
 -- Assumes nothing.
 use mathlib.Core.Path.{_≡_, refl, sym, ap, _∙_}
 use mathlib.Core.Bool.{Bool, false}
-use mathlib.Core.List.{List, [], _∷_, _++_, append-nil}
+use mathlib.Core.List.{List, [], _∷_, _++_}
 use Prim.Native.Nat.{ℕ, zero, suc, _+_, _-_, _*_, _/_, _%_, _^_, _<_}
 use native.Mathlib.Nat.{zero-div}
 use native.Mathlib.Omega.{arith}
-use lib.Seq.{take-suc}
-use lib.ListN.{length, getD, take, replicate, length-append, length-replicate}
+use lib.ListN.{length, replicate, length-append, length-replicate}
 use Rattle.laws.specs.Bits.{Bytes, odd, bitsOf, pack, unpack}
 use Rattle.laws.specs.Wrote.{Wrote}
-use Rattle.laws.proofs.ByteLaws.{length-pack, unpack-pack, unpack-append, bytes-set, bytes-stored, bytes-pack}
+use Rattle.laws.proofs.ByteLaws.{length-pack, unpack-pack, bytes-set, bytes-stored, bytes-pack}
 use Rattle.laws.proofs.WroteLaws.{wrote-then, wrote-as}
 
 -- the low bits of 0
@@ -44,8 +43,3 @@ pad-wrote b {q = q} f g =
     let e : b ++ bitsOf ((8 - q % 8) % 8) 0 ≡ unpack (pack b) =
     ap (λ (z : List Bool). b ++ z) (zero-bits ((8 - q % 8) % 8) ∙ ap (λ (n : ℕ). replicate n false) k) ∙ sym (unpack-pack b) in
     wrote-as e (wrote-then f g)
-
--- the bits of one byte more
-pub bytes-take-suc : (s : List ℕ) (i : ℕ) → i < length s → unpack (take (suc i) s) ≡ unpack (take i s) ++ bitsOf 8 (getD s i 0)
-unfolding unpack
-bytes-take-suc s i h = rw (take-suc s i 0 h, unpack-append) (ap (λ (l : List Bool). unpack (take i s) ++ l) (append-nil (bitsOf 8 (getD s i 0))))

@@ -36,6 +36,7 @@ use ax25_token::encode::put_call;
 use bits::write::bit;
 use bits::write::byte;
 use bits::write::push;
+use bits::write::push_bytes;
 use bits::write::push_text7;
 use refusals::BAD_CALL;
 
@@ -161,27 +162,6 @@ fn either(b: bool, x: u8) -> u8
     ensures { λ r. ⌜ (r ≡ pick b x 0) × (r ≤ x) ⌝ }
 {
     if b { x } else { 0 }
-}
-
-// Whole bytes, eight bits each. The next position.
-fn push_bytes(out: &mut [u8], at: usize, s: &[u8]) -> usize
-    requires { ⌜ (at < 2 ^ 61) × (length (now s) < 2 ^ 56) ⌝ }
-    ensures { λ r. ⌜ Wrote (unpack (now (out .entry))) at (unpack (now (s .entry))) (unpack (now (out .exit))) r ⌝ }
-{
-    let mut pos = at;
-    let mut i = 0;
-    while i < s.len() {
-        pos = push(out, pos, wide(s[i]), 8);
-        i += 1;
-    }
-    pos
-}
-
-// A byte as a word.
-fn wide(x: u8) -> u64
-    ensures { λ r. ⌜ r ≡ x ⌝ }
-{
-    x as u64
 }
 
 // Where the bytes of a text or binary body start: behind control 03 and PID F0, else at control.

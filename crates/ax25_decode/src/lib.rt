@@ -272,14 +272,7 @@ fn read_bytes(s: &[u8], at: usize, out: &mut [u8], to: usize) -> usize
     requires { ⌜ (length (now s) < 5000) × (at ≤ length (now s) * 8) × (to < 2 ^ 20) ⌝ }
     ensures { λ r. ⌜ Wrote (now (out .entry)) to (bytesIn (drop at (unpack (now (s .entry))))) (now (out .exit)) r ⌝ }
 {
-    let n = bits::read::remaining(s, at) / 8;
-    let mut next = to;
-    let mut i = 0;
-    while i < n {
-        next = bits::write::byte(out, next, field::narrow(field::value(s, at + i * 8, 8)));
-        i += 1;
-    }
-    next
+    bits::read::bytes(s, at, out, to)
 }
 
 // The body of a type, from a position on; where there is none, nothing is said of the output.

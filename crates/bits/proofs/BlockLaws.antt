@@ -6,18 +6,18 @@ use mathlib.Core.List.{List, [], _∷_, _++_, append-assoc, append-nil}
 use Prim.Native.Nat.{ℕ, zero, suc, _+_, _-_, _*_, _/_, _%_, _^_, _≤_, _<_}
 use native.Mathlib.Nat.{zero-add, suc-add, add-comm, lt-of-lt-of-le}
 use native.Mathlib.Omega.{arith}
-use lib.ListN.{length, getD, set, take, drop}
-use lib.Seq.{sets, take-length, take-nil, drop-drop, drop-cons, length-take-le, set-getD}
+use lib.ListN.{length, getD, set, take, drop, take-append-drop}
+use lib.Seq.{sets, take-suc, take-length, take-nil, drop-drop, drop-cons, length-take-le, set-getD}
 use lib.Pow.{pow-mono, shr-lt}
 use Rattle.laws.specs.Bits.{bitsOf, unpack}
 use Rattle.laws.specs.Wrote.{Wrote}
 use Rattle.laws.proofs.BitLaws.{length-bits, bits-append, bits-join, bits-mod}
-use Rattle.laws.proofs.ByteLaws.{put-unpack}
-use Rattle.laws.proofs.ListLaws.{sets-append, sets-over}
+use Rattle.laws.proofs.ByteLaws.{put-unpack, unpack-append, unpack-drop}
+use Rattle.laws.proofs.ListLaws.{sets-append, sets-over, from-place}
 use Rattle.laws.proofs.WroteLaws.{wrote-then, wrote-as}
 use Rattle.bits.specs.Text7.{sevens}
 use Rattle.bits.proofs.Text7Laws.{length-sevens}
-use Rattle.bits.proofs.WriteLaws.{sets-bits-more}
+use Rattle.bits.proofs.WordLaws.{shift-lt, shift-join}
 
 -- ---- numbers of several bytes
 
@@ -51,34 +51,52 @@ pub sevens-join : (s : List ℕ) (k m n a : ℕ) {b : ℕ} → bitsOf (m * 7) a 
 sevens-join s k m n a {b} e f h =
     rw (bits-join (m * 7) (n * 7) a h, e, f, ← drop-drop m k s, sevens-add m n (drop k s))
 
+-- ---- whole bytes
+
+-- one byte more
+pub bytes-take-suc : (s : List ℕ) (i : ℕ) → i < length s → unpack (take (suc i) s) ≡ unpack (take i s) ++ bitsOf 8 (getD s i 0)
+unfolding unpack
+bytes-take-suc s i h = rw (take-suc s i 0 h, unpack-append) (ap (λ (l : List Bool). unpack (take i s) ++ l) (append-nil (bitsOf 8 (getD s i 0))))
+
+-- the first k bytes, and then the others
+pub bytes-parts : (s : List ℕ) (k : ℕ) → take (k * 8) (unpack s) ++ unpack (take (length s - k) (drop k s)) ≡ unpack s
+bytes-parts s k = rw (from-place s k, unpack-drop k s) (take-append-drop (k * 8) (unpack s))
+
 -- ---- bits carried to the next block
 
--- o bits are carried to p; n bits come behind them: of the o + n bits the first n are stored, and the last o are carried on
-carry-on : (l : List Bool) (p o n a : ℕ) {b : ℕ} → b < 2 ^ n
-    → sets (sets l p (bitsOf n ((a * 2 ^ n + b) / 2 ^ o))) (p + n) (bitsOf o ((a * 2 ^ n + b) % 2 ^ o)) ≡ sets (sets l p (bitsOf o a)) (p + o) (bitsOf n b)
-carry-on l p o n a {b} h =
+-- o bits a are carried; n bits b come behind them: of the o + n bits the first n are one part, and the last o the other
+pub carry : (o n a : ℕ) {b : ℕ} → b < 2 ^ n → bitsOf n ((a * 2 ^ n + b) / 2 ^ o) ++ bitsOf o ((a * 2 ^ n + b) % 2 ^ o) ≡ bitsOf o a ++ bitsOf n b
+carry o n a {b} h =
     let x = a * 2 ^ n + b in
-    let e = sets-append l p (bitsOf o a) (bitsOf n b) in
-    rw (bits-mod o x, sets-bits-more l p n o x, add-comm n o, bits-join o n a h) (rw (length-bits o a) at e)
+    rw (bits-mod o x, ← bits-append n o x, add-comm n o, bits-join o n a h)
+
+-- the same in words of w bits, by shifts
+pub carry-word : (o w a : ℕ) {b : ℕ} → o ≤ w → b < 2 ^ w → bitsOf w (a * 2 ^ (w - o) % 2 ^ w + b / 2 ^ o) ++ bitsOf o b ≡ bitsOf o a ++ bitsOf w b
+carry-word o w a {b} h lt =
+    let e : o + (w - o) ≡ w = omega arith in
+    let f : (w - o) + o ≡ w = omega arith in
+    let front = rw e at (shift-join o (w - o) a (shr-lt {n = b} (w - o) o (rw f lt))) in
+    let back = rw f at (bits-append (w - o) o b) in
+    rw (front, append-assoc (bitsOf o a) (bitsOf (w - o) (b / 2 ^ o)) (bitsOf o b), ← back)
+
+pub carry-lt : (o w a : ℕ) {b : ℕ} → o ≤ w → b < 2 ^ w → a * 2 ^ (w - o) % 2 ^ w + b / 2 ^ o < 2 ^ w
+carry-lt o w a {b} h lt =
+    let e : o + (w - o) ≡ w = omega arith in
+    let f : (w - o) + o ≡ w = omega arith in
+    rw e at (shift-lt o (w - o) a (shr-lt {n = b} (w - o) o (rw f lt)))
 
 pub carried-lt : (a : ℕ) {o : ℕ} → o < 8 → a < 2 ^ o → a < 128
 carried-lt a {o} h k = lt-of-lt-of-le k (pow-mono {i = o} {j = 7} (omega arith))
 
--- with the carried bits k bytes of a text are written at q; m more
-pub block-on : (d l : List Bool) (q p o k m a : ℕ) {b : ℕ} (s : List ℕ) → k ≤ length s → p + o ≡ q + k * 7
-    → sets l p (bitsOf o a) ≡ sets d q (sevens (take k s)) → bitsOf (m * 7) b ≡ sevens (take m (drop k s)) → b < 2 ^ (m * 7)
-    → sets (sets l p (bitsOf (m * 7) ((a * 2 ^ (m * 7) + b) / 2 ^ o))) (p + m * 7) (bitsOf o ((a * 2 ^ (m * 7) + b) % 2 ^ o)) ≡ sets d q (sevens (take (k + m) s))
-block-on d l q p o k m a s h e f g lt =
-    let t = sevens (take k s) in
-    let there : q + length t ≡ p + o = omega (arith, length-sevens (take k s), length-take-le k s h) in
-    carry-on l p o (m * 7) a lt ∙ rw (f, g, sevens-add k m s) (sym (rw there at (sets-append d q t (sevens (take m (drop k s))))))
+-- with the carried bits t is written at q; more come behind it
+pub block-on : (d l : List Bool) (q p o n a y z : ℕ) (t more : List Bool) → p + o ≡ q + length t → sets l p (bitsOf o a) ≡ sets d q t
+    → bitsOf n y ++ bitsOf o z ≡ bitsOf o a ++ more → sets (sets l p (bitsOf n y)) (p + n) (bitsOf o z) ≡ sets d q (t ++ more)
+block-on d l q p o n a y z t more e f g =
+    let stored = sets-append l p (bitsOf n y) (bitsOf o z) in
+    let carried = sets-append l p (bitsOf o a) more in
+    sym (rw (length-bits n y) at stored) ∙ ap (sets l p) g ∙ rw (length-bits o a, f, e) at carried ∙ sym (sets-append d q t more)
 
 -- ---- the bits in front
-
-pub first-lt : (x : ℕ) {o : ℕ} → o ≤ 8 → x < 256 → x / 2 ^ (8 - o) < 2 ^ o
-first-lt x {o} h k =
-    let e : o + (8 - o) ≡ 8 = omega arith in
-    shr-lt o (8 - o) (rw e k)
 
 -- the first o bits of byte i are there already
 pub first-there : (s : List ℕ) (i o : ℕ) → o ≤ 8 → i < length s → sets (unpack s) (i * 8) (bitsOf o (getD s i 0 / 2 ^ (8 - o))) ≡ unpack s

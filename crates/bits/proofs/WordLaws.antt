@@ -4,17 +4,19 @@ use mathlib.Core.Path.{_≡_, refl, sym, ap, _∙_}
 use mathlib.Core.Bool.{Bool}
 use mathlib.Core.List.{List, [], _∷_, _++_}
 use Prim.Native.Nat.{ℕ, zero, suc, _+_, _-_, _*_, _/_, _%_, _^_, _≤_, _<_}
-use native.Mathlib.Nat.{zero-add, suc-add, le-of-suc-le-suc, not-suc-le-zero}
+use native.Mathlib.Nat.{zero-add, add-zero, suc-add, div-one, mod-lt, mul-mod-left}
+use native.Mathlib.Numerals.{add-one}
 use native.Mathlib.Omega.{arith}
 use lib.ListN.{length, getD, take, drop, length-drop}
+use lib.Arith.{digits-lt}
+use lib.Pow.{mod-pow-add, pow-add, pow-pos, shl-shr, shr-lt}
 use lib.Seq.{drop-cons, drop-drop, take-add, take-at, drop-at, take-nil, take-take, length-take-le, sets}
-use Rattle.laws.specs.Bits.{bitsOf, valueOf, unpack}
+use Rattle.laws.specs.Bits.{Bytes, bitsOf, valueOf, fit, packN, unpack}
 use Rattle.laws.specs.Wrote.{Wrote}
-use Rattle.laws.proofs.BitLaws.{length-bits, value-bits, bits-append, bits-join}
-use Rattle.laws.proofs.ByteLaws.{unpack-drop}
+use Rattle.laws.proofs.BitLaws.{length-bits, value-bits, bits-append, bits-join, bits-mod}
+use Rattle.laws.proofs.ByteLaws.{unpack-drop, fit-take, length-packN, unpack-packN, bytes-packN, bytes-stored}
 use Rattle.laws.proofs.ListLaws.{sets-out}
 use Rattle.bits.specs.Text7.{unsevens}
-use Rattle.bits.proofs.Text7Laws.{length-unsevens}
 
 -- ---- bytes side by side
 
@@ -31,6 +33,17 @@ bytes-join s i m n a e f h =
     let p : (i + m) * 8 ≡ i * 8 + m * 8 = omega arith in
     rw (bits-join (m * 8) (n * 8) a h, e, f, p, ← drop-drop (m * 8) (i * 8) (unpack s), take-add (m * 8) (n * 8) (drop (i * 8) (unpack s)))
 
+-- what is shifted past m + n bits is lost
+shifted : (m n a : ℕ) → a * 2 ^ n % 2 ^ (m + n) ≡ a % 2 ^ m * 2 ^ n
+shifted m n a = rw (mod-pow-add (a * 2 ^ n) m n, shl-shr a n, mul-mod-left a (2 ^ n)) (add-zero (a % 2 ^ m * 2 ^ n))
+
+-- m bits in front of n by a shift
+pub shift-lt : (m n a : ℕ) {b : ℕ} → b < 2 ^ n → a * 2 ^ n % 2 ^ (m + n) + b < 2 ^ (m + n)
+shift-lt m n a h = rw (shifted m n a, pow-add 2 m n) (digits-lt (mod-lt a (pow-pos m)) h)
+
+pub shift-join : (m n a : ℕ) {b : ℕ} → b < 2 ^ n → bitsOf (m + n) (a * 2 ^ n % 2 ^ (m + n) + b) ≡ bitsOf m a ++ bitsOf n b
+shift-join m n a h = rw (shifted m n a, bits-join m n (a % 2 ^ m) h, bits-mod m a)
+
 -- ---- a part of a word
 
 -- k bits of a number, behind m and in front of j
@@ -46,16 +59,67 @@ front-part (suc o) n m [] h = ap (λ (l : List Bool). take n (drop (suc o) l)) (
 front-part (suc o) n zero (x ∷ l) h = absurd (omega arith)
 front-part (suc o) n (suc m) (x ∷ l) h = front-part o n m l (omega arith)
 
+-- n bits behind o in the first w, which a number holds
+part-in : (l : List Bool) (o n w v : ℕ) → o + n ≤ w → bitsOf w v ≡ take w l → bitsOf n (v / 2 ^ (w - (o + n))) ≡ take n (drop o l)
+part-in l o n w v h e =
+    let j = w - (o + n) in
+    let all : w ≡ o + (n + j) = omega arith in
+    sym (mid-bits o n j v) ∙ ap (λ (x : ℕ). take n (drop o (bitsOf x v))) (sym all) ∙ ap (λ (x : List Bool). take n (drop o x)) e ∙ front-part o n w l h
+
 -- n bits from a position on, in the word of the eight bytes that it stands in
 pub part-of : (b : List Bool) (at n w : ℕ) → at % 8 + n ≤ 64 → bitsOf 64 w ≡ take 64 (drop (at / 8 * 8) b)
     → bitsOf n (w / 2 ^ (64 - (at % 8 + n))) ≡ take n (drop at b)
 part-of b at n w h e =
-    let o = at % 8 in
-    let j = 64 - (o + n) in
-    let all : 64 ≡ o + (n + j) = omega arith in
-    let p : at / 8 * 8 + o ≡ at = omega arith in
-    sym (mid-bits o n j w) ∙ ap (λ (x : ℕ). take n (drop o (bitsOf x w))) (sym all) ∙ ap (λ (l : List Bool). take n (drop o l)) e
-    ∙ front-part o n 64 (drop (at / 8 * 8) b) h ∙ rw (drop-drop o (at / 8 * 8) b, p)
+    let p : at / 8 * 8 + at % 8 ≡ at = omega arith in
+    part-in (drop (at / 8 * 8) b) (at % 8) n 64 w h e ∙ rw (drop-drop (at % 8) (at / 8 * 8) b, p)
+
+-- ---- a word and the byte behind it
+
+pub first-lt : (x : ℕ) {o : ℕ} → o ≤ 8 → x < 256 → x / 2 ^ (8 - o) < 2 ^ o
+first-lt x {o} h k =
+    let e : o + (8 - o) ≡ 8 = omega arith in
+    shr-lt o (8 - o) (rw e k)
+
+module _ (o w v x : ℕ) (h : o ≤ 8) (k : o ≤ w) (lt : x < 256) where
+  pub behind-lt : v * 2 ^ o % 2 ^ w + x / 2 ^ (8 - o) < 2 ^ w
+  behind-lt =
+      let e : (w - o) + o ≡ w = omega arith in
+      rw e at (shift-lt (w - o) o v (first-lt x h lt))
+
+  -- the w bits behind the first o
+  pub behind : (l : List Bool) → bitsOf w v ≡ take w l → bitsOf 8 x ≡ take 8 (drop w l) → bitsOf w (v * 2 ^ o % 2 ^ w + x / 2 ^ (8 - o)) ≡ take w (drop o l)
+  behind l f g =
+      let e : (w - o) + o ≡ w = omega arith in
+      let all : o + (w - o) ≡ w = omega arith in
+      let none : w - (o + (w - o)) ≡ 0 = omega arith in
+      let front : bitsOf (w - o) v ≡ take (w - o) (drop o l) = rw (none, div-one v) at (part-in l o (w - o) w v (omega arith) f) in
+      let back : bitsOf o (x / 2 ^ (8 - o)) ≡ take o (drop w l) = rw (zero-add o) at (part-in (drop w l) 0 o 8 x (omega arith) g) in
+      let joined = rw e at (shift-join (w - o) o v (first-lt x h lt)) in
+      let parts = rw (e, drop-drop (w - o) o l, all) at (take-add (w - o) o (drop o l)) in
+      rw (joined, front, back, parts)
+
+-- ---- whole bytes
+
+pub bytes-add : (m n : ℕ) (b : List Bool) → packN (m + n) b ≡ packN m b ++ packN n (drop (m * 8) b)
+unfolding packN
+bytes-add zero n b = rw zero-add
+bytes-add (suc m) n b =
+    let e : suc m * 8 ≡ 8 + m * 8 = omega arith in
+    rw (suc-add, e, ← drop-drop (m * 8) 8 b) (ap (λ (l : List ℕ). valueOf (fit 8 b) ∷ l) (bytes-add m n (drop 8 b)))
+
+-- one byte more
+pub bytes-suc : (k : ℕ) (b : List Bool) → suc k * 8 ≤ length b → packN (suc k) b ≡ packN k b ++ (valueOf (take 8 (drop (k * 8) b)) ∷ [])
+unfolding packN
+bytes-suc k b h =
+    ap (λ (n : ℕ). packN n b) (sym (add-one k)) ∙ bytes-add k 1 b
+    ∙ ap (λ (x : List Bool). packN k b ++ (valueOf x ∷ [])) (fit-take 8 (drop (k * 8) b) (omega (arith, length-drop (k * 8) b)))
+
+-- bytes whose bits were stored are stored
+pub bytes-wrote : (k : ℕ) (b : List Bool) {s t : List ℕ} {i : ℕ} → k * 8 ≤ length b → Bytes s → Bytes t → unpack t ≡ sets (unpack s) (i * 8) (take (k * 8) b)
+    → Wrote s i (packN k b) t (i + k)
+bytes-wrote k b {s} {t} {i} h hs ht e =
+    let bits : take (k * 8) b ≡ unpack (packN k b) = sym (unpack-packN k b ∙ fit-take (k * 8) b h) in
+    record { stored = bytes-stored s t i (packN k b) hs ht (bytes-packN k b) (rw bits at e); next-is = omega (arith, length-packN k b) }
 
 -- ---- numbers of seven bits
 
@@ -83,5 +147,5 @@ seven-in i j v h =
     ap (λ (x : ℕ). valueOf (take 7 (drop (i * 7) (bitsOf x v)))) e ∙ ap valueOf (mid-bits (i * 7) 7 (j * 7) v) ∙ value-bits 7 (v / 2 ^ (j * 7))
 
 -- where there is no room nothing is written
-pub unwritten : (out : List ℕ) (to n : ℕ) (b : List Bool) → length out ≤ to → Wrote out to (unsevens n b) out (to + n)
-unwritten out to n b h = record { stored = sym (sets-out out to (unsevens n b) h); next-is = omega (arith, length-unsevens n b) }
+pub unwritten : (out : List ℕ) (to : ℕ) (x : List ℕ) {n : ℕ} → length x ≡ n → length out ≤ to → Wrote out to x out (to + n)
+unwritten out to x e h = record { stored = sym (sets-out out to x h); next-is = omega arith }

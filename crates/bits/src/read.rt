@@ -5,7 +5,7 @@ ghost use mathlib.Core.List.{map};
 ghost use Prim.Native.Nat.{_+_, _-_, _*_, _/_, _%_, _^_, _≤_, _<_};
 ghost use lib.ListN.{length, getD, take, drop};
 ghost use lib.Seq.{sets};
-ghost use Rattle.laws.specs.Bits.{odd, num, bitsOf, valueOf, unpack};
+ghost use Rattle.laws.specs.Bits.{odd, num, bitsOf, valueOf, packN, unpack};
 ghost use Rattle.laws.specs.Digits.{numberOf};
 ghost use Rattle.laws.specs.Wrote.{Wrote};
 ghost use Rattle.bits.specs.Read.{takeBits, takeText, letter, taken};
@@ -14,6 +14,7 @@ use crate::wide;
 use crate::write::byte;
 use crate::write::least;
 use crate::write::power;
+use crate::write::put_bytes;
 
 // A number and the next position, or too few bits.
 pub enum Taken {
@@ -71,7 +72,7 @@ fn four(s: &[u8], i: usize) -> u64
 }
 
 // Eight.
-fn word(s: &[u8], i: usize) -> u64
+pub(crate) fn word(s: &[u8], i: usize) -> u64
     requires { ⌜ i + 8 ≤ length (now s) ⌝ }
     ensures { λ r. ⌜ bitsOf 64 r ≡ take 64 (drop (i * 8) (unpack (now (s .entry)))) ⌝ }
 {
@@ -270,4 +271,57 @@ pub fn text7(s: &[u8], at: usize, out: &mut [u8], to: usize) -> Got
     let pad = get_bit(s, s.len() * 8 - 1);
     let end = end_of(s, pad);
     Got::Next(sevens(s, at, count(at, end), out, to))
+}
+
+// The 64 bits from a position on, where nine bytes are left.
+fn eight(s: &[u8], at: usize) -> u64
+    requires { ⌜ at / 8 + 9 ≤ length (now s) ⌝ }
+    ensures { λ r. ⌜ bitsOf 64 r ≡ take 64 (drop at (unpack (now (s .entry)))) ⌝ }
+{
+    let i = at / 8;
+    let o = at % 8;
+    (word(s, i) << o) + (one(s, i + 8) >> (8 - o))
+}
+
+// Of n bytes as many as go in words of eight, written from a place of the output on. How many.
+fn words(s: &[u8], at: usize, n: usize, out: &mut [u8], to: usize) -> usize
+    requires { ⌜ (n ≤ (length (now s) * 8 - at) / 8) × (length (now s) < 2 ^ 60) × (to < length (now out)) ⌝ }
+    ensures { λ r. ⌜ r ≤ n ⌝ }
+    ensures { λ r. ⌜ unpack (now (out .exit)) ≡ sets (unpack (now (out .entry))) (to * 8) (take (r * 8) (drop at (unpack (now (s .entry))))) ⌝ }
+{
+    // nine bytes left are 72 bits, and those reach into nine bytes
+    let most = least(n, out.len() - to);
+    let mut i = 0;
+    while 9 <= most - i {
+        put_bytes(out, to + i, eight(s, at + i * 8), 8);
+        i += 8;
+    }
+    i
+}
+
+// n bytes, one by one, written from a place of the output on. The next place.
+fn bytes_each(s: &[u8], at: usize, n: usize, out: &mut [u8], to: usize) -> usize
+    requires { ⌜ (n ≤ (length (now s) * 8 - at) / 8) × (length (now s) < 2 ^ 60) × (to + n < 2 ^ 62) ⌝ }
+    ensures { λ r. ⌜ Wrote (now (out .entry)) to (packN n (drop at (unpack (now (s .entry))))) (now (out .exit)) r ⌝ }
+{
+    let mut next = to;
+    let mut i = 0;
+    while i < n {
+        next = byte(out, next, value(s, at + i * 8, 8) as u8);
+        i += 1;
+    }
+    next
+}
+
+// The whole bytes from a position on, written from a place of the output on. The next place.
+pub fn bytes(s: &[u8], at: usize, out: &mut [u8], to: usize) -> usize
+    requires { ⌜ (length (now s) < 2 ^ 60) × (to < 2 ^ 61) ⌝ }
+    ensures { λ r. ⌜ Wrote (now (out .entry)) to (packN ((length (now (s .entry)) * 8 - at) / 8) (drop at (unpack (now (s .entry))))) (now (out .exit)) r ⌝ }
+{
+    let n = remaining(s, at) / 8;
+    if out.len() <= to {
+        return to + n;
+    }
+    let i = words(s, at, n, out, to);
+    bytes_each(s, at + i * 8, n - i, out, to + i)
 }

@@ -9,6 +9,7 @@ ghost use Rattle.laws.specs.Pick.{pick};
 ghost use Rattle.laws.specs.Wrote.{Wrote};
 ghost use Rattle.bits.specs.Text7.{sevens, lastOr, text7Bits};
 ghost use Rattle.bits.specs.Write.{widthOf, topBits};
+use crate::read::word;
 use crate::wide;
 
 // A byte at a place. The next place.
@@ -173,7 +174,7 @@ fn low(w: u64) -> u8
 }
 
 // The low n bytes of a word from byte i on.
-fn put_bytes(out: &mut [u8], i: usize, w: u64, n: usize)
+pub(crate) fn put_bytes(out: &mut [u8], i: usize, w: u64, n: usize)
     requires { ⌜ (n ≤ 8) × (i + n ≤ length (now out)) ⌝ }
     ensures { λ _. ⌜ unpack (now (out .exit)) ≡ sets (unpack (now (out .entry))) (i * 8) (bitsOf (n * 8) w) ⌝ }
 {
@@ -239,6 +240,66 @@ fn push_sevens(out: &mut [u8], at: usize, text: &[u8]) -> usize
     let pos = push(out, (i + n * 7) * 8, carried, o);
     let k = n * 8;
     push_each(out, pos, &text[k..])
+}
+
+// n words of eight bytes, behind the last o bits of `first`, which are carried to byte i. The last word: the caller stores its last o bits.
+fn put_words(out: &mut [u8], i: usize, o: usize, first: u64, s: &[u8], n: usize) -> u64
+    requires { ⌜ (0 < o) × (o < 8) × (i + n * 8 ≤ length (now out)) × (n * 8 ≤ length (now s)) ⌝ }
+    ensures { λ r. ⌜ sets (unpack (now (out .exit))) ((i + n * 8) * 8) (bitsOf o r) ≡ sets (sets (unpack (now (out .entry))) (i * 8) (bitsOf o first)) (i * 8 + o) (take (n * 64) (unpack (now (s .entry)))) ⌝ }
+{
+    let mut carried = first;
+    let mut j = 0;
+    while j < n {
+        let v = word(s, j * 8);
+        put_bytes(out, i + j * 8, (carried << (64 - o)) + (v >> o), 8);
+        carried = v;
+        j += 1;
+    }
+    carried
+}
+
+// Whole bytes one by one. The next position.
+fn bytes_each(out: &mut [u8], at: usize, s: &[u8]) -> usize
+    requires { ⌜ at + length (now s) * 8 < 2 ^ 62 ⌝ }
+    ensures { λ r. ⌜ Wrote (unpack (now (out .entry))) at (unpack (now (s .entry))) (unpack (now (out .exit))) r ⌝ }
+{
+    let mut pos = at;
+    let mut i = 0;
+    while i < s.len() {
+        pos = push(out, pos, wide(s[i]), 8);
+        i += 1;
+    }
+    pos
+}
+
+// Whole bytes behind a part of a byte. The next position.
+fn push_behind(out: &mut [u8], at: usize, s: &[u8]) -> usize
+    requires { ⌜ (0 < at % 8) × (at / 8 < length (now out)) × (at < 2 ^ 61) × (length (now s) < 2 ^ 56) ⌝ }
+    ensures { λ r. ⌜ Wrote (unpack (now (out .entry))) at (unpack (now (s .entry))) (unpack (now (out .exit))) r ⌝ }
+{
+    let i = at / 8;
+    let o = at % 8;
+    let n = least(s.len() / 8, (out.len() - i) / 8);
+    let first = wide(out[i]) >> (8 - o);
+    let carried = put_words(out, i, o, first, s, n);
+    let pos = push(out, (i + n * 8) * 8, carried, o);
+    let k = n * 8;
+    bytes_each(out, pos, &s[k..])
+}
+
+// Whole bytes, eight bits each. The next position.
+pub fn push_bytes(out: &mut [u8], at: usize, s: &[u8]) -> usize
+    requires { ⌜ (at < 2 ^ 61) × (length (now s) < 2 ^ 56) ⌝ }
+    ensures { λ r. ⌜ Wrote (unpack (now (out .entry))) at (unpack (now (s .entry))) (unpack (now (out .exit))) r ⌝ }
+{
+    let i = at / 8;
+    if out.len() <= i {
+        return at + s.len() * 8;
+    }
+    if at % 8 == 0 {
+        return copy(out, i, s) * 8;
+    }
+    push_behind(out, at, s)
 }
 
 // Eight pad bits behind a text: the opposite of its last bit, or of the bit before it where it is empty.

@@ -50,7 +50,7 @@ unfolding unpack
 length-unpack [] = refl
 length-unpack (x ∷ s) = rw (length-append, length-bits, length-unpack s) (omega arith)
 
-length-packN : (k : ℕ) (b : List Bool) → length (packN k b) ≡ k
+pub length-packN : (k : ℕ) (b : List Bool) → length (packN k b) ≡ k
 unfolding packN
 length-packN zero b = refl
 length-packN (suc k) b = ap suc (length-packN k (drop 8 b))
@@ -59,7 +59,7 @@ pub length-pack : (b : List Bool) → length (pack b) ≡ (length b + 7) / 8
 unfolding pack
 length-pack b = length-packN ((length b + 7) / 8) b
 
-unpack-packN : (k : ℕ) (b : List Bool) → unpack (packN k b) ≡ fit (k * 8) b
+pub unpack-packN : (k : ℕ) (b : List Bool) → unpack (packN k b) ≡ fit (k * 8) b
 unfolding unpack packN fit
 unpack-packN zero b = refl
 unpack-packN (suc k) b =
@@ -177,7 +177,7 @@ bytes-sets s i (x ∷ v) h k = bytes-sets (set s i x) (suc i) v (bytes-set s i x
 pub bytes-stored : (s t : List ℕ) (i : ℕ) (v : List ℕ) → Bytes s → Bytes t → Bytes v → unpack t ≡ sets (unpack s) (i * 8) (unpack v) → t ≡ sets s i v
 bytes-stored s t i v hs ht hv e = unpack-inj t (sets s i v) ht (bytes-sets s i v hs hv) (e ∙ sym (sets-bits s i v))
 
-bytes-packN : (n : ℕ) (b : List Bool) → Bytes (packN n b)
+pub bytes-packN : (n : ℕ) (b : List Bool) → Bytes (packN n b)
 unfolding packN
 bytes-packN zero b j l = absurd (not-suc-le-zero l)
 bytes-packN (suc n) b zero l = rw (length-fit 8 b) at (value-lt (fit 8 b))

@@ -11,6 +11,7 @@ use denote.Ref.{now}
 use Rattle.laws.specs.Bits.{unpack}
 use Rattle.laws.proofs.WroteLaws.{wrote-then, wrote-as}
 use Rattle.bits.specs.Text7.{unsevens}
+use Rattle.bits.proofs.Text7Laws.{length-unsevens}
 use Rattle.bits.proofs.WordLaws.{unsevens-add, unwritten}
 use Rattle.bits.proofs.read.sevens.Statement.{statement}
 use Rattle.bits.proofs.read.sevens.Tie as tie
@@ -21,7 +22,8 @@ add-result c = search needs
 returns : tie.Need-returns
 returns c =
     let a = c .before .before .before .args in
-    unwritten (now (a .out)) (a .to) (a .n) (drop (a .at) (unpack (now (a .s)))) (omega arith)
+    let b = drop (a .at) (unpack (now (a .s))) in
+    unwritten (now (a .out)) (a .to) (unsevens (a .n) b) (length-unsevens (a .n) b) (omega arith)
 
 blocks-requires : tie.Need-blocks-requires
 blocks-requires c κs = search needs

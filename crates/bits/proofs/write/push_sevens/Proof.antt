@@ -7,8 +7,9 @@ use Prim.Native.Nat.{_+_, _*_, _/_, _%_, _<_}
 use denote.Ref.{now}
 use Rattle.laws.proofs.ByteLaws.{bits-past}
 use Rattle.bits.specs.Text7.{sevens}
-use Rattle.bits.proofs.BlockLaws.{sevens-wrote, first-lt, first-there}
+use Rattle.bits.proofs.BlockLaws.{sevens-wrote, first-there}
 use Rattle.bits.proofs.Text7Laws.{length-sevens}
+use Rattle.bits.proofs.WordLaws.{first-lt}
 use Rattle.bits.proofs.write.push_sevens.Statement.{statement}
 use Rattle.bits.proofs.write.push_sevens.Tie as tie
 

@@ -4,14 +4,15 @@ use borrow.Author.Needs.{needs}
 use native.Mathlib.Omega.{arith}
 use native.Mathlib.Nat.{add-zero, mod-lt}
 use mathlib.Core.Path.{_≡_}
-use Prim.Native.Nat.{_+_, _-_, _*_, _^_, _≤_, _<_}
+use Prim.Native.Nat.{_+_, _-_, _*_, _/_, _%_, _^_, _≤_, _<_}
 use lib.ListN.{length, take}
 use lib.Pow.{pow-pos}
-use lib.Seq.{sets}
+use lib.Seq.{sets, length-take-le}
 use denote.Ref.{now}
 use Rattle.laws.specs.Bits.{bitsOf, unpack}
 use Rattle.bits.specs.Text7.{sevens}
-use Rattle.bits.proofs.BlockLaws.{carried-lt, block-on}
+use Rattle.bits.proofs.BlockLaws.{sevens-add, carry, carried-lt, block-on}
+use Rattle.bits.proofs.Text7Laws.{length-sevens}
 use Rattle.bits.proofs.write.put_blocks.Statement.{statement}
 use Rattle.bits.proofs.write.put_blocks.Tie as tie
 
@@ -74,8 +75,11 @@ loop-again c =
     let x = at-loop .loop .carried * 2 ^ 56 + block .result in
     let e : (a .i + j * 7) * 8 + 56 ≡ (a .i + (j + 1) * 7) * 8 = omega arith in
     let f : j * 8 + 8 ≡ (j + 1) * 8 = omega arith in
-    let on = block-on (sets (unpack (now (a .out))) (a .i * 8) (bitsOf (a .o) (a .first))) (unpack (at-loop .loop .out)) (a .i * 8 + a .o) ((a .i + j * 7) * 8) (a .o) (j * 8) 8 (at-loop .loop .carried) (now (a .text)) (omega arith) (omega arith) (inv .3) (block .ensures .0) (block .ensures .1) in
-    (search needs, rw (power .ensures) (mod-lt x (pow-pos (a .o))), search needs, rw (power .ensures, c .before .before .put-bytes .ensures) (rw (e, f) at on))
+    let s = now (a .text) in
+    let room : (a .i + j * 7) * 8 + a .o ≡ a .i * 8 + a .o + length (sevens (take (j * 8) s)) = omega (arith, length-sevens (take (j * 8) s), length-take-le (j * 8) s (omega arith)) in
+    let on =
+    block-on (sets (unpack (now (a .out))) (a .i * 8) (bitsOf (a .o) (a .first))) (unpack (at-loop .loop .out)) (a .i * 8 + a .o) ((a .i + j * 7) * 8) (a .o) 56 (at-loop .loop .carried) (x / 2 ^ a .o) (x % 2 ^ a .o) (sevens (take (j * 8) s)) (bitsOf 56 (block .result)) room (inv .3) (carry (a .o) 56 (at-loop .loop .carried) (block .ensures .1)) in
+    (search needs, rw (power .ensures) (mod-lt x (pow-pos (a .o))), search needs, rw (power .ensures, c .before .before .put-bytes .ensures, ← f, sevens-add (j * 8) 8 s, ← block .ensures .0) (rw e at on))
 
 same-length : tie.Need-same-length Inv-loop μ-loop
 same-length c = search needs

@@ -1,4 +1,4 @@
--- `ax25::encode::push_bytes` meets its contract. The first i bytes are written.
+-- `bits::write::bytes_each` meets its contract. The first i bytes are written.
 -- Assumes nothing.
 use borrow.Author.Needs.{needs}
 use native.Mathlib.Omega.{arith}
@@ -11,9 +11,9 @@ use denote.Ref.{now}
 use Rattle.laws.specs.Bits.{unpack}
 use Rattle.laws.specs.Wrote.{Wrote}
 use Rattle.laws.proofs.WroteLaws.{wrote-then, wrote-none}
-use Rattle.ax25.proofs.PackLaws.{bytes-take-suc}
-use Rattle.ax25.proofs.encode.push_bytes.Statement.{statement}
-use Rattle.ax25.proofs.encode.push_bytes.Tie as tie
+use Rattle.bits.proofs.BlockLaws.{bytes-take-suc}
+use Rattle.bits.proofs.write.bytes_each.Statement.{statement}
+use Rattle.bits.proofs.write.bytes_each.Tie as tie
 
 abbrev Inv-loop : tie.InvT-loop
 Inv-loop out₀ at text pos₀ i₀ out pos i = (i ≤ length text) × (pos ≡ at + i * 8) × (length out ≡ length out₀) × Wrote (unpack out₀) at (unpack (take i text)) (unpack out) pos
@@ -60,8 +60,8 @@ returns c =
     let t = now (c .before .before .before .before .args .s) in
     rw (take-all (c .before .loop .i) t (omega arith)) at (c .before .loop .inv .3)
 
-pub push-bytes-spec : {M : Type 1} → statement M
-push-bytes-spec =
+pub bytes-each-spec : {M : Type 1} → statement M
+bytes-each-spec =
     tie.close
     (tie.spec
     Inv-loop
