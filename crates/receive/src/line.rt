@@ -69,7 +69,14 @@ fn told(answer: Push, store: &[u8], data: &mut [u8], out: &mut [u8]) -> usize {
 }
 
 // A frame is pushed.
-fn heard(receiver: Reassembler, store: &mut [u8], frame: &[u8], field: usize, data: &mut [u8], out: &mut [u8]) -> Said {
+fn heard(
+    receiver: Reassembler,
+    store: &mut [u8],
+    frame: &[u8],
+    field: usize,
+    data: &mut [u8],
+    out: &mut [u8],
+) -> Said {
     let pushed = receiver.push(store, frame, field);
     let answer = pushed.answer;
     let next = pushed.receiver;
@@ -80,7 +87,15 @@ fn heard(receiver: Reassembler, store: &mut [u8], frame: &[u8], field: usize, da
 }
 
 // What is said of a line with its number. Nothing is said of an empty line.
-pub fn said(receiver: Reassembler, store: &mut [u8], line: &[u8], number: u64, field: usize, data: &mut [u8], out: &mut [u8]) -> Said {
+pub fn said(
+    receiver: Reassembler,
+    store: &mut [u8],
+    line: &[u8],
+    number: u64,
+    field: usize,
+    data: &mut [u8],
+    out: &mut [u8],
+) -> Said {
     if line.len() == 0 {
         return Said { size: 0, receiver };
     }

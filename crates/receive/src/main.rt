@@ -51,7 +51,15 @@ fn main() {
             let mut line = input::room();
             let mut space = store();
             let mut data = io::large_buffer();
-            lines(receiver, field as usize, &mut chunk, &mut line, &mut space, &mut data, &mut out);
+            lines(
+                receiver,
+                field as usize,
+                &mut chunk,
+                &mut line,
+                &mut space,
+                &mut data,
+                &mut out,
+            );
         }
     }
 }
@@ -82,7 +90,15 @@ fn lines(
 }
 
 // What is said of the line that was read.
-fn answer(state: Reassembler, space: &mut [u8], line: &[u8], stand: Stand, field: usize, data: &mut [u8], out: &mut [u8]) -> Said {
+fn answer(
+    state: Reassembler,
+    space: &mut [u8],
+    line: &[u8],
+    stand: Stand,
+    field: usize,
+    data: &mut [u8],
+    out: &mut [u8],
+) -> Said {
     let n = stand.len;
     if line.len() < n {
         return Said {
@@ -90,5 +106,13 @@ fn answer(state: Reassembler, space: &mut [u8], line: &[u8], stand: Stand, field
             receiver: state,
         };
     }
-    line::said(state, space, without_cr(front(line, n)), stand.number, field, data, out)
+    line::said(
+        state,
+        space,
+        without_cr(front(line, n)),
+        stand.number,
+        field,
+        data,
+        out,
+    )
 }

@@ -1,4 +1,5 @@
 // What is said of a line: the frames of what it holds, a refusal or an error.
+use bits::write::byte;
 use frame::Control;
 use input::room;
 use kiss::Encoded;
@@ -14,7 +15,6 @@ use texts::say::command_of;
 use texts::say::put_error;
 use texts::say::put_refusal;
 use texts::say::put_unread;
-use bits::write::byte;
 
 // The byte behind the terminator, as the source's `term_marker` has it where the caller gives none.
 const MARKER: u8 = 0x01;

@@ -24,7 +24,13 @@ fn main() {
     let mut chunk = io::buffer();
     let mut line = room();
     let mut out = io::large_buffer();
-    lines(field as usize, mask_of(mask), &mut chunk, &mut line, &mut out);
+    lines(
+        field as usize,
+        mask_of(mask),
+        &mut chunk,
+        &mut line,
+        &mut out,
+    );
 }
 
 // Answers every line.

@@ -76,7 +76,7 @@ fn is_hex(text: &[u8]) -> bool
 
 // The bytes that pairs of digits spell, at the front of `out`.
 fn pairs(text: &[u8], n: usize, out: &mut [u8])
-    requires { ⌜ (isHex (now text) ≡ true) × (length (now text) ≡ n * 2) × (n < 2 ^ 56) ⌝ }
+    requires { ⌜ (isHex (now text) ≡ true) × (length (now text) ≡ n * 2) × (n < 2 ^ 62) ⌝ }
     ensures { λ _. ⌜ Wrote (now (out .entry)) 0 (bytesOf (now (text .entry))) (now (out .exit)) n ⌝ }
 {
     let mut i = 0;

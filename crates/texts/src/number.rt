@@ -1,9 +1,9 @@
 // Decimal numbers, read and written.
 ghost use mathlib.Core.Path.{_≡_};
-ghost use Prim.Native.Nat.{_+_, _≤_, _<_, _^_};
-ghost use lib.ListN.{length};
+ghost use mathlib.Core.List.{[], _∷_};
+ghost use Prim.Native.Nat.{_<_, _^_};
 ghost use Rattle.laws.specs.Wrote.{Wrote};
-ghost use Rattle.texts.specs.Number.{numeralOf, withDigit, decimalOf, numberIs};
+ghost use Rattle.texts.specs.Number.{numeralOf, numberFrom, decimalOf, numberIs};
 use bits::write::byte;
 
 // What decimal digits spell: none where there is another byte, no byte, or more than 64 bits.
@@ -13,8 +13,13 @@ pub enum Number {
 }
 
 // A number with one more digit behind it.
-fn with_digit(v: u64, c: u8) -> Number {
-    if c < b'0' || b'9' < c {
+fn with_digit(v: u64, c: u8) -> Number
+    ensures { λ r. ⌜ numberIs r ≡ numberFrom v (c ∷ []) ⌝ }
+{
+    if c < b'0' {
+        return Number::None;
+    }
+    if b'9' < c {
         return Number::None;
     }
     let d = c as u64 - 48;
@@ -25,7 +30,9 @@ fn with_digit(v: u64, c: u8) -> Number {
 }
 
 // The number that a text spells.
-pub fn decimal(text: &[u8]) -> Number {
+pub fn decimal(text: &[u8]) -> Number
+    ensures { λ r. ⌜ numberIs r ≡ decimalOf (now (text .entry)) ⌝ }
+{
     if text.len() == 0 {
         return Number::None;
     }

@@ -3,6 +3,7 @@ ghost use mathlib.Core.Path.{_≡_};
 ghost use Prim.Native.Nat.{_^_, _<_};
 ghost use lib.ListN.{length};
 ghost use Rattle.laws.specs.Wrote.{Wrote};
+ghost use Rattle.texts.specs.Say.{wordOf, commandOf, numberedLine, refusalLine, errorLine, unreadLine};
 use crate::hex::Read;
 use crate::number::put_number;
 use crate::part::piece;
@@ -13,19 +14,23 @@ use bits::write::copy;
 const WORDS: [u8; 17] = *b"ax25|long|generic";
 
 // Document 01's refusals by number, in order, from 0 on, which is none.
-const REASONS: [u8; 337] = *b"|unknown command|data or message too long|frame too short|bad call|bad format|output too short|\
+const REASONS: [u8; 337] =
+    *b"|unknown command|data or message too long|frame too short|bad call|bad format|output too short|\
 not decodable|field not 3 to 512|mask neither 240 nor 248|empty message|first byte 80 or more|too many fragments for the mask|\
 no such fragment|fragment empty or over the field|marker 14|reply over 3 or hint over 7|store or state out of bounds";
 
 // The word of a command. The next place.
 pub fn put_word(out: &mut [u8], at: usize, command: u8) -> usize
     requires { ⌜ at < 2 ^ 60 ⌝ }
+    ensures { λ r. ⌜ Wrote (now (out .entry)) at (wordOf command) (now (out .exit)) r ⌝ }
 {
     copy(out, at, piece(&WORDS, command as usize, b'|'))
 }
 
 // The command of a word, or 3 where it is none.
-pub fn command_of(word: &[u8]) -> u8 {
+pub fn command_of(word: &[u8]) -> u8
+    ensures { λ r. ⌜ r ≡ commandOf (now (word .entry)) ⌝ }
+{
     if check::same(word, b"ax25") {
         return 0;
     }
@@ -38,31 +43,44 @@ pub fn command_of(word: &[u8]) -> u8 {
     3
 }
 
+// A line of an opening, a number, a colon and a text. The next place.
+fn put_line(out: &mut [u8], at: usize, opening: &[u8], n: u64, text: &[u8]) -> usize
+    requires { ⌜ (at < 2 ^ 60) × (length (now opening) < 2 ^ 56) × (length (now text) < 2 ^ 56) ⌝ }
+    ensures { λ r. ⌜ Wrote (now (out .entry)) at (numberedLine (now (opening .entry)) n (now (text .entry))) (now (out .exit)) r ⌝ }
+{
+    let p = copy(out, at, opening);
+    let q = put_number(out, p, n);
+    let r = copy(out, q, b": ");
+    let e = copy(out, r, text);
+    byte(out, e, b'\n')
+}
+
 // The line of a refusal. The next place.
 pub fn put_refusal(out: &mut [u8], at: usize, n: u8) -> usize
     requires { ⌜ at < 2 ^ 60 ⌝ }
+    ensures { λ r. ⌜ Wrote (now (out .entry)) at (refusalLine n) (now (out .exit)) r ⌝ }
 {
-    let p = copy(out, at, b"refused ");
-    let q = put_number(out, p, n as u64);
-    let r = copy(out, q, b": ");
-    let e = copy(out, r, piece(&REASONS, n as usize, b'|'));
-    byte(out, e, b'\n')
+    put_line(
+        out,
+        at,
+        b"refused ",
+        n as u64,
+        piece(&REASONS, n as usize, b'|'),
+    )
 }
 
 // The line of an error in line `number`. The next place.
 pub fn put_error(out: &mut [u8], at: usize, number: u64, what: &[u8]) -> usize
     requires { ⌜ (at < 2 ^ 60) × (length (now what) < 2 ^ 56) ⌝ }
+    ensures { λ r. ⌜ Wrote (now (out .entry)) at (errorLine number (now (what .entry))) (now (out .exit)) r ⌝ }
 {
-    let p = copy(out, at, b"error: line ");
-    let q = put_number(out, p, number);
-    let r = copy(out, q, b": ");
-    let e = copy(out, r, what);
-    byte(out, e, b'\n')
+    put_line(out, at, b"error: line ", number, what)
 }
 
 // The error of a text that spells no bytes. The next place.
 pub fn put_unread(out: &mut [u8], at: usize, number: u64, read: Read) -> usize
     requires { ⌜ at < 2 ^ 60 ⌝ }
+    ensures { λ r. ⌜ Wrote (now (out .entry)) at (unreadLine number read) (now (out .exit)) r ⌝ }
 {
     match read {
         Read::NoDigit => put_error(out, at, number, b"no hexadecimal digit"),

@@ -1,44 +1,38 @@
+-- `texts::hex::digit` meets its contract, by ranges.
+-- Assumes nothing.
+use native.Mathlib.Omega.{arith}
 use borrow.Author.Needs.{needs}
+use mathlib.Core.Path.{sym}
+use Rattle.texts.proofs.HexLaws.{value-low, value-digit, value-middle, value-capital, value-upper, value-small, value-high}
 use Rattle.texts.proofs.hex.digit.Statement.{statement}
 use Rattle.texts.proofs.hex.digit.Tie as tie
-use Rattle.texts.proofs.hex.digit.Reads as reads
-use Rattle.texts.proofs.hex.digit.Lts as lts
 
--- src/hex.rt:57:20
 sub-result : tie.Need-sub-result
 sub-result c = search needs
 
--- src/hex.rt:58:21
 sub-result-2 : tie.Need-sub-result-2
 sub-result-2 c = search needs
 
--- src/hex.rt:52:1
 returns : tie.Need-returns
-returns c = ?
+returns c = (sym (value-digit _ (omega arith) (omega arith)), omega arith)
 
--- src/hex.rt:52:1
 returns-2 : tie.Need-returns-2
-returns-2 c = ?
+returns-2 c = (sym (value-capital _ (omega arith) (omega arith)), omega arith)
 
--- src/hex.rt:52:1
 returns-3 : tie.Need-returns-3
-returns-3 c = ?
+returns-3 c = (sym (value-small _ (omega arith) (omega arith)), omega arith)
 
--- src/hex.rt:52:1
 returns-4 : tie.Need-returns-4
-returns-4 c = ?
+returns-4 c = (sym (value-low _ (omega arith)), omega arith)
 
--- src/hex.rt:52:1
 returns-5 : tie.Need-returns-5
-returns-5 c = ?
+returns-5 c = (sym (value-middle _ (omega arith) (omega arith)), omega arith)
 
--- src/hex.rt:52:1
 returns-6 : tie.Need-returns-6
-returns-6 c = ?
+returns-6 c = (sym (value-upper _ (omega arith) (omega arith)), omega arith)
 
--- src/hex.rt:52:1
 returns-7 : tie.Need-returns-7
-returns-7 c = ?
+returns-7 c = (sym (value-high _ (omega arith)), omega arith)
 
 pub digit-spec : {M : Type 1} → statement M
 digit-spec =

@@ -1,79 +1,99 @@
+-- `texts::hex::pairs` meets its contract. The first i bytes are written.
+-- Assumes nothing.
+use borrow.Author.Needs.{needs}
+use mathlib.Core.Path.{_≡_}
+use native.Mathlib.Omega.{arith}
+use Prim.Native.Nat.{_+_, _-_, _*_, _≤_, _<_}
+use lib.ListN.{length, take, getD}
+use lib.Seq.{take-all}
+use denote.Ref.{now}
+use Rattle.laws.specs.Wrote.{Wrote}
+use Rattle.laws.proofs.WroteLaws.{wrote-then, wrote-none}
+use Rattle.texts.specs.Hex.{bytesOf}
+use Rattle.texts.proofs.HexLaws.{hex-digit, bytes-more}
 use Rattle.texts.proofs.hex.pairs.Statement.{statement}
 use Rattle.texts.proofs.hex.pairs.Tie as tie
-use Rattle.texts.proofs.hex.pairs.Reads as reads
-use Rattle.texts.proofs.hex.pairs.Lts as lts
-use Rattle.bits.proofs.write.byte.Reads as byte-reads
-use Rattle.texts.proofs.hex.digit.Reads as digit-reads
 
 abbrev Inv-loop : tie.InvT-loop
-Inv-loop text n out₀ i₀ out i = ?
+Inv-loop text n out₀ i₀ out i = (i ≤ n) × (length out ≡ length out₀) × Wrote out₀ 0 (bytesOf (take (i * 2) text)) out i
 
 abbrev μ-loop : tie.MeasureT-loop
-μ-loop text n out₀ i₀ out i = ?
+μ-loop text n out₀ i₀ out i = n - i
 
--- src/hex.rt:83:5
 loop-holds : tie.Need-loop-holds Inv-loop μ-loop
-loop-holds c = ?
+unfolding bytesOf
+loop-holds c = (search needs, search needs, wrote-none)
 
--- src/hex.rt:84:31
 mul-digit : tie.Need-mul-digit Inv-loop μ-loop
-mul-digit c = ?
+mul-digit c = search needs
 
--- src/hex.rt:84:26
 shared-slice-read-digit : tie.Need-shared-slice-read-digit Inv-loop μ-loop
-shared-slice-read-digit c = ?
+shared-slice-read-digit c = search needs
 
--- src/hex.rt:84:13
 digit-requires : tie.Need-digit-requires Inv-loop μ-loop
-digit-requires c κs = ?
+digit-requires c κs = search needs
 
--- src/hex.rt:85:30
 mul-digit-2 : tie.Need-mul-digit-2 Inv-loop μ-loop
-mul-digit-2 c = ?
+mul-digit-2 c = search needs
 
--- src/hex.rt:85:30
 add-digit : tie.Need-add-digit Inv-loop μ-loop
-add-digit c = ?
+add-digit c = search needs
 
--- src/hex.rt:85:25
 shared-slice-read-digit-2 : tie.Need-shared-slice-read-digit-2 Inv-loop μ-loop
-shared-slice-read-digit-2 c = ?
+shared-slice-read-digit-2 c = search needs
 
--- src/hex.rt:85:13
 digit-requires-2 : tie.Need-digit-requires-2 Inv-loop μ-loop
-digit-requires-2 c κs = ?
+digit-requires-2 c κs = search needs
 
--- src/hex.rt:86:22
 mul-byte : tie.Need-mul-byte Inv-loop μ-loop
-mul-byte c = ?
+mul-byte c =
+    let l = c .before .before .before .before .before .before in
+    let start = l .before .before .before in
+    let text = now (start .args .text) in
+    omega (arith, c .before .before .before .digit .ensures .0, hex-digit text (start .pre .0) (l .loop .i * 2) (omega arith))
 
--- src/hex.rt:86:22
 add-byte : tie.Need-add-byte Inv-loop μ-loop
-add-byte c = ?
+add-byte c =
+    let l = c .before .before .before .before .before .before in
+    let start = l .before .before .before in
+    let text = now (start .args .text) in
+    let high = hex-digit text (start .pre .0) (l .loop .i * 2) (omega arith) in
+    let low = hex-digit text (start .pre .0) (l .loop .i * 2 + 1) (omega arith) in
+    omega (arith, c .before .before .before .digit .ensures .0, c .before .digit2 .ensures .0, high, low)
 
--- src/hex.rt:86:9
 byte-requires : tie.Need-byte-requires Inv-loop μ-loop
-byte-requires c κs = ?
+byte-requires c κs = search needs
 
--- src/hex.rt:87:9
 add-i : tie.Need-add-i Inv-loop μ-loop
-add-i c = ?
+add-i c = search needs
 
--- src/hex.rt:83:5
 loop-less : tie.Need-loop-less Inv-loop μ-loop
-loop-less c = ?
+loop-less c = search needs
 
--- src/hex.rt:83:5
 loop-again : tie.Need-loop-again Inv-loop μ-loop
-loop-again c = ?
+loop-again c =
+    let byte = c .before .before .byte in
+    let high = c .before .before .before .before .before .before .digit in
+    let low = c .before .before .before .before .digit2 in
+    let l = c .before .before .before .before .before .before .before .before .before in
+    let text = now (l .before .before .before .args .text) in
+    let i = l .loop .i in
+    let e : (i + 1) * 2 ≡ i * 2 + 2 = omega arith in
+    let h : i * 2 + 1 < length text = omega arith in (
+      search needs,
+      search needs,
+      rw (e, bytes-more text i h, ← high .ensures .0, ← low .ensures .0, ← byte .ensures .next-is) (wrote-then (l .loop .inv .2) (byte .ensures)),
+    )
 
--- src/hex.rt:78:1
 same-length : tie.Need-same-length Inv-loop μ-loop
-same-length c = ?
+same-length c = search needs
 
--- src/hex.rt:78:1
 returns : tie.Need-returns Inv-loop μ-loop
-returns c = ?
+returns c =
+    let l = c .before in
+    let a = l .before .before .before .args in
+    let e : l .loop .i ≡ a .n = omega arith in
+    rw e at (rw (take-all (l .loop .i * 2) (now (a .text)) (omega arith)) at (l .loop .inv .2))
 
 pub pairs-spec : {M : Type 1} → statement M
 pairs-spec =

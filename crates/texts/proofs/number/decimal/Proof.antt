@@ -1,58 +1,62 @@
+-- `texts::number::decimal` meets its contract. The number so far, with the rest behind it, is that of the whole.
+-- Assumes nothing.
+use borrow.Author.Needs.{needs}
+use mathlib.Core.Path.{_≡_, refl, sym, ap, _∙_}
+use Prim.Native.Nat.{_-_, _≤_}
+use lib.ListN.{length, drop}
+use Rattle.texts.specs.Number.{numberFrom, numberIs}
+use Rattle.texts.proofs.NumberLaws.{decimal-none, decimal-some, number-end, number-none, number-next}
 use Rattle.texts.proofs.number.decimal.Statement.{statement}
 use Rattle.texts.proofs.number.decimal.Tie as tie
-use Rattle.texts.proofs.number.decimal.Reads as reads
-use Rattle.texts.proofs.number.decimal.Lts as lts
-use Rattle.texts.proofs.number.with_digit.Reads as with-digit-reads
 
 abbrev Inv-loop : tie.InvT-loop
-Inv-loop text v₀ i₀ v i = ?
+Inv-loop text v₀ i₀ v i = (i ≤ length text) × (numberFrom v (drop i text) ≡ numberFrom 0 text)
 
 abbrev μ-loop : tie.MeasureT-loop
-μ-loop text v₀ i₀ v i = ?
+μ-loop text v₀ i₀ v i = length text - i
 
--- src/number.rt:30:9
 returns : tie.Need-returns Inv-loop μ-loop
-returns c = ?
+returns c = decimal-none _ (c .if1 .taken)
 
--- src/number.rt:34:5
 loop-holds : tie.Need-loop-holds Inv-loop μ-loop
-loop-holds c = ?
+loop-holds c = (search needs, refl)
 
--- src/number.rt:35:43
 shared-slice-read-with-digit : tie.Need-shared-slice-read-with-digit Inv-loop μ-loop
-shared-slice-read-with-digit c = ?
+shared-slice-read-with-digit c = search needs
 
--- src/number.rt:35:29
 with-digit-requires : tie.Need-with-digit-requires Inv-loop μ-loop
-with-digit-requires c κs = ?
+with-digit-requires c κs = search needs
 
--- src/number.rt:35:24
 enum-known-w : tie.Need-enum-known-w Inv-loop μ-loop
-enum-known-w c = ?
+enum-known-w c = search needs
 
--- src/number.rt:36:13
 enum-told : tie.Need-enum-told Inv-loop μ-loop
-enum-told c = ?
+enum-told c = search needs
 
--- src/number.rt:36:13
 returns-2 : tie.Need-returns-2 Inv-loop μ-loop
-returns-2 c = ?
+returns-2 c =
+    let l = c .before .before .before .before .before in
+    let digit = c .before .before .with-digit in
+    let stop = number-none _ _ _ (c .before .before .before .before .loop-test .taken) (sym (ap numberIs (c .enum-told .given .1)) ∙ digit .ensures) in
+    sym stop ∙ l .loop .inv .1 ∙ decimal-some _ (l .before .if1 .left)
 
--- src/number.rt:39:9
 add-i : tie.Need-add-i Inv-loop μ-loop
-add-i c = ?
+add-i c = search needs
 
--- src/number.rt:34:5
 loop-less : tie.Need-loop-less Inv-loop μ-loop
-loop-less c = ?
+loop-less c = search needs
 
--- src/number.rt:34:5
 loop-again : tie.Need-loop-again Inv-loop μ-loop
-loop-again c = ?
+loop-again c =
+    let l = c .before .before .before .before .before .before in
+    let digit = c .before .before .before .with-digit in
+    let next = number-next _ _ _ (c .before .before .before .before .before .loop-test .taken) _ (sym (ap numberIs (c .before .w .given .1)) ∙ digit .ensures) in
+    (search needs, next ∙ l .loop .inv .1)
 
--- src/number.rt:28:1
 returns-3 : tie.Need-returns-3 Inv-loop μ-loop
-returns-3 c = ?
+returns-3 c =
+    let l = c .before in
+    sym (number-end _ _ _ (c .loop-test .left)) ∙ l .loop .inv .1 ∙ decimal-some _ (l .before .if1 .left)
 
 pub decimal-spec : {M : Type 1} → statement M
 decimal-spec =

@@ -1,35 +1,32 @@
+-- `texts::show::put_number` meets its contract.
+-- Assumes nothing.
 use borrow.Author.Needs.{needs}
+use native.Mathlib.Omega.{arith}
+use Rattle.laws.proofs.WroteLaws.{wrote-then}
+use Rattle.texts.specs.Hex.{hexByte}
 use Rattle.texts.proofs.show.put_number.Statement.{statement}
 use Rattle.texts.proofs.show.put_number.Tie as tie
-use Rattle.texts.proofs.show.put_number.Reads as reads
-use Rattle.texts.proofs.show.put_number.Lts as lts
-use Rattle.bits.proofs.write.byte.Reads as byte-reads
-use Rattle.bits.proofs.write.copy.Reads as copy-reads
-use Rattle.texts.proofs.hex.put_byte.Reads as put-byte-reads
 
--- src/show.rt:19:27
 slice-aggregate-copy : tie.Need-slice-aggregate-copy
 slice-aggregate-copy c = search needs
 
--- src/show.rt:19:9
 copy-requires : tie.Need-copy-requires
 copy-requires c κs = search needs
 
--- src/show.rt:20:9
 put-byte-requires : tie.Need-put-byte-requires
 put-byte-requires c κs = search needs
 
--- src/show.rt:21:5
 byte-requires : tie.Need-byte-requires
-byte-requires c κs = ?
+unfolding hexByte
+byte-requires c κs = omega (arith, c .before .before .before .put-byte .ensures .next-is, c .before .before .before .before .before .before .before .copy .ensures .next-is)
 
--- src/show.rt:15:1
 same-length : tie.Need-same-length
 same-length c = search needs
 
--- src/show.rt:15:1
 returns : tie.Need-returns
-returns c = ?
+returns c =
+    let t = c .before .before .before .before .before .before in
+    wrote-then (t .before .before .before .before .copy .ensures) (wrote-then (t .put-byte .ensures) (c .before .before .byte .ensures))
 
 pub put-number-spec : {M : Type 1} → statement M
 put-number-spec =
