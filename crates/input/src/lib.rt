@@ -24,9 +24,9 @@ pub struct Stand {
 }
 
 // The numbers of the command line.
-pub enum Numbers {
+pub enum Arguments {
     Two(u64, u64),
-    None,
+    Other,
 }
 
 // Room for a line. The contract gives only the length, so that no caller's proof unfolds the array.
@@ -38,7 +38,7 @@ pub fn room() -> [u8; 16384]
 
 // Nothing is read yet.
 pub fn start() -> Stand
-    ensures { λ r. ⌜ (r .from ≡ 0) × (r .to ≡ 0) × (r .len ≡ 0) ⌝ }
+    ensures { λ r. ⌜ r .to ≡ 0 ⌝ }
 {
     Stand {
         from: 0,
@@ -53,7 +53,7 @@ pub fn start() -> Stand
 // Reads where all is taken. The input has ended where nothing came.
 fn filled(s: Stand, chunk: &mut [u8]) -> Stand
     requires { ⌜ s .to ≤ length (now chunk) ⌝ }
-    ensures { λ r. ⌜ (r .to ≤ length (now (chunk .exit))) × (r .len ≡ s .len) ⌝ }
+    ensures { λ r. ⌜ (r .from ≤ r .to) × (r .to ≤ length (now (chunk .exit))) × (r .len ≡ s .len) ⌝ }
 {
     let from = s.from;
     let to = s.to;
@@ -86,7 +86,7 @@ fn clipped(n: usize, room: usize) -> usize
 // Takes what was read up to the line's end.
 fn taken(s: Stand, chunk: &[u8], line: &mut [u8]) -> Stand
     requires { ⌜ (s .from ≤ s .to) × (s .to ≤ length (now chunk)) × (s .len ≤ length (now line) + 1) × (length (now chunk) < 2 ^ 60) × (length (now line) < 2 ^ 60) ⌝ }
-    ensures { λ r. ⌜ (r .to ≡ s .to) × (r .from ≤ r .to) × (r .len ≤ length (now (line .exit)) + 1) ⌝ }
+    ensures { λ r. ⌜ (r .to ≡ s .to) × (r .len ≤ length (now (line .exit)) + 1) ⌝ }
 {
     let from = s.from;
     let to = s.to;
@@ -114,7 +114,10 @@ fn taken(s: Stand, chunk: &[u8], line: &mut [u8]) -> Stand
 }
 
 // Reads where all is taken, and takes what was read up to the line's end.
-fn step(s: Stand, chunk: &mut [u8], line: &mut [u8]) -> Stand {
+fn step(s: Stand, chunk: &mut [u8], line: &mut [u8]) -> Stand
+    requires { ⌜ (s .to ≤ length (now chunk)) × (s .len ≤ length (now line) + 1) × (length (now chunk) < 2 ^ 60) × (length (now line) < 2 ^ 60) ⌝ }
+    ensures { λ r. ⌜ (r .to ≤ length (now (chunk .exit))) × (r .len ≤ length (now (line .exit)) + 1) ⌝ }
+{
     let f = filled(s, chunk);
     if f.ended {
         return f;
@@ -123,7 +126,10 @@ fn step(s: Stand, chunk: &mut [u8], line: &mut [u8]) -> Stand {
 }
 
 // The next line, its first bytes in `line`. At the end of the input it is empty.
-pub fn next(s: Stand, chunk: &mut [u8], line: &mut [u8]) -> Stand {
+pub fn next(s: Stand, chunk: &mut [u8], line: &mut [u8]) -> Stand
+    requires { ⌜ (s .to ≤ length (now chunk)) × (length (now chunk) < 2 ^ 60) × (length (now line) < 2 ^ 60) ⌝ }
+    ensures { λ r. ⌜ (r .to ≤ length (now (chunk .exit))) × (r .len ≤ length (now (line .exit)) + 1) ⌝ }
+{
     let mut stand = Stand {
         from: s.from,
         to: s.to,
@@ -154,17 +160,17 @@ fn number_at(i: usize) -> Number {
 }
 
 // The two numbers of the command line, and nothing else.
-pub fn numbers() -> Numbers {
+pub fn numbers() -> Arguments {
     if os::arg_count() != 3 {
-        return Numbers::None;
+        return Arguments::Other;
     }
     let Number::Is(a) = number_at(1) else {
-        return Numbers::None;
+        return Arguments::Other;
     };
     let Number::Is(b) = number_at(2) else {
-        return Numbers::None;
+        return Arguments::Other;
     };
-    Numbers::Two(a, b)
+    Arguments::Two(a, b)
 }
 
 // A number as a mask. What is no byte is no mask, as 0 is none.

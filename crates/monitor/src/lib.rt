@@ -1,13 +1,13 @@
 // Frames as a TNC-2 monitor prints them: SRC>DEST, digipeaters, the information.
 ghost use mathlib.Core.Path.{_≡_};
-ghost use mathlib.Core.Bool.{Bool};
-ghost use mathlib.Core.List.{List, map};
+ghost use mathlib.Core.List.{map};
+ghost use mathlib.Core.Option.{some};
 ghost use Prim.Native.Nat.{_+_, _*_, _^_, _≤_, _<_};
-ghost use lib.ListN.{length, drop};
+ghost use lib.ListN.{length};
 ghost use Rattle.laws.specs.Wrote.{Wrote};
 ghost use Rattle.ax25_token.specs.Put.{casedOf};
 ghost use Rattle.ax25_address.specs.Address.{addrCall, heardIn};
-ghost use Rattle.ax25_address.specs.Parse.{fieldsOf, parseOf};
+ghost use Rattle.ax25_address.specs.Parse.{fieldsOf, parseOf, countOf};
 ghost use Rattle.ax25_address.specs.Types.{callLen};
 ghost use Rattle.texts.specs.Show.{shown};
 ghost use Rattle.monitor.specs.Monitor.{anyOf, starOf, viaOf, monitorOf};
@@ -21,7 +21,7 @@ use texts::show::put_shown;
 // The call of an address field of l letters, as it is or in capitals. The next place.
 fn put_call(f: &[u8], l: usize, up: bool, out: &mut [u8], at: usize) -> usize
     requires { ⌜ (l < length (now f)) × (l ≤ 7) × (at < 2 ^ 59) ⌝ }
-    ensures { λ r. ⌜ Wrote (now (out .entry)) at (shown (map (casedOf up) (addrCall l (now (f .entry))))) (now (out .exit)) r ⌝ }
+    ensures { λ r. ⌜ Wrote (now (out .entry)) at (shown (map (casedOf up) (addrCall l (now (f .entry))))) (now (out .exit)) r × (r ≤ at + 60) ⌝ }
 {
     let c = addr_call(f, l, up);
     let bytes = c.bytes;
@@ -46,7 +46,7 @@ fn any_heard(f: &[u8], l: usize, n: usize) -> bool
 // A star behind the last address field that has its bit 80. The next place.
 fn put_star(heard: bool, later: bool, out: &mut [u8], at: usize) -> usize
     requires { ⌜ at < 2 ^ 60 ⌝ }
-    ensures { λ r. ⌜ Wrote (now (out .entry)) at (starOf heard later) (now (out .exit)) r ⌝ }
+    ensures { λ r. ⌜ Wrote (now (out .entry)) at (starOf heard later) (now (out .exit)) r × (r ≤ at + 1) ⌝ }
 {
     if !heard {
         return at;
@@ -59,8 +59,8 @@ fn put_star(heard: bool, later: bool, out: &mut [u8], at: usize) -> usize
 
 // The n digipeaters of which f starts at the first, each behind a comma. The next place.
 fn put_via(f: &[u8], l: usize, n: usize, out: &mut [u8], at: usize) -> usize
-    requires { ⌜ (n ≤ 8) × (l ≤ 7) × (n * (l + 1) ≤ length (now f)) × (length (now f) < 2 ^ 60) × (at + n * 100 < 2 ^ 59) ⌝ }
-    ensures { λ r. ⌜ Wrote (now (out .entry)) at (viaOf (map (addrCall l) (fieldsOf l n (now (f .entry)))) (map (heardIn l) (fieldsOf l n (now (f .entry))))) (now (out .exit)) r ⌝ }
+    requires { ⌜ (n ≤ 8) × (l ≤ 7) × (n * (l + 1) ≤ length (now f)) × (length (now f) < 2 ^ 60) × (at + n * 62 < 2 ^ 58) ⌝ }
+    ensures { λ r. ⌜ Wrote (now (out .entry)) at (viaOf (map (addrCall l) (fieldsOf l n (now (f .entry)))) (map (heardIn l) (fieldsOf l n (now (f .entry))))) (now (out .exit)) r × (r ≤ at + n * 62) ⌝ }
 {
     if n == 0 {
         return at;
@@ -74,7 +74,8 @@ fn put_via(f: &[u8], l: usize, n: usize, out: &mut [u8], at: usize) -> usize
 
 // A frame of n digipeaters. The next place.
 fn put_frame(frame: &[u8], l: usize, n: usize, out: &mut [u8], at: usize) -> usize
-    requires { ⌜ (n ≤ 8) × (l ≤ 7) × ((n + 2) * (l + 1) + 2 ≤ length (now frame)) × (length (now frame) < 2 ^ 56) × (at < 2 ^ 57) ⌝ }
+    requires { ⌜ (l ≤ 7) × (some n ≡ countOf (parseOf l (now frame))) × (length (now frame) < 2 ^ 56) × (at < 2 ^ 57) ⌝ }
+    ensures { λ r. ⌜ Wrote (now (out .entry)) at (monitorOf l (now (frame .entry))) (now (out .exit)) r ⌝ }
 {
     let end = addr_end(n, l);
     let p = put_call(&frame[l + 1..], l, true, out, at);

@@ -4,7 +4,7 @@ mod line;
 ghost use mathlib.Core.Path.{_≡_};
 ghost use Prim.Native.Nat.{_≤_, _<_};
 ghost use lib.ListN.{length};
-use input::Numbers;
+use input::Arguments;
 use input::Stand;
 use input::mask_of;
 use input::next;
@@ -33,7 +33,7 @@ fn room() -> [u8; 400000]
 }
 
 fn main() {
-    let Numbers::Two(field, mask) = numbers() else {
+    let Arguments::Two(field, mask) = numbers() else {
         io::write_all(
             1,
             b"usage: receive FIELD MASK (bytes of a frame's field, 3 to 512; mask of the check byte, 240 or 248)\n",

@@ -2,7 +2,7 @@
 mod line;
 
 ghost use Prim.Native.Nat.{_≤_, _<_};
-use input::Numbers;
+use input::Arguments;
 use input::Stand;
 use input::mask_of;
 use input::next;
@@ -14,7 +14,7 @@ use texts::part::without_cr;
 use texts::say::put_error;
 
 fn main() {
-    let Numbers::Two(field, mask) = numbers() else {
+    let Arguments::Two(field, mask) = numbers() else {
         io::write_all(
             1,
             b"usage: send FIELD MASK (bytes of a frame's field, 3 to 512; mask of the check byte, 240 or 248)\n",
