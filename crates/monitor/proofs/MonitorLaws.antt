@@ -6,7 +6,8 @@ use mathlib.Core.List.{List, [], _∷_, _++_, map}
 use mathlib.Core.Option.{Option, none, some}
 use Prim.Native.Nat.{ℕ, _+_, _-_, _*_, _≤_, _<_}
 use native.Mathlib.Omega.{arith}
-use lib.ListN.{length, getD, take, drop}
+use lib.ListN.{length, getD, take, drop, length-take, length-drop}
+use native.Mathlib.Nat.{sub-zero, add-mul}
 use lib.Dec.{leb}
 use borrow.Author.Tests.{le-leb, lt-leb}
 use Rattle.laws.specs.Pick.{pick}
@@ -14,7 +15,10 @@ use Rattle.laws.specs.Text.{ascii, upper}
 use Rattle.laws.specs.Wrote.{Wrote}
 use Rattle.laws.proofs.ListLaws.{from-place}
 use Rattle.laws.proofs.WroteLaws.{wrote-none, wrote-then}
+use Rattle.ax25_token.specs.declared.Call.{Call}
+use Rattle.ax25_token.specs.Call.{textOf}
 use Rattle.ax25_token.specs.Put.{casedOf}
+use Rattle.ax25_token.proofs.CallLaws.{text-front}
 use Rattle.ax25_token.proofs.PutLaws.{map-plain, map-up}
 use Rattle.ax25_address.specs.Address.{addrCall, heardIn}
 use Rattle.ax25_address.specs.Parse.{Parsed, fieldsOf, parseOf, countOf}
@@ -22,6 +26,7 @@ use Rattle.ax25_address.specs.declared.parse.Digis.the-variants.{Found}
 use Rattle.ax25_address.proofs.PlaceLaws.{Has, found-has}
 use Rattle.ax25.proofs.CoderLaws.{fields-none, heard-some, calls-some}
 use Rattle.texts.specs.Show.{shown}
+use Rattle.texts.proofs.ShowLaws.{shown-length}
 use Rattle.monitor.specs.Monitor.{anyOf, starOf, viaOf, linedOf, linedOr, monitorOf}
 
 -- ---- a star
@@ -73,10 +78,27 @@ module _ (l n : ℕ) (d : List ℕ) where
         rw (heard-some l n d h, calls-some l n d h)
         (wrote-then w (wrote-then (rw (map-plain (addrCall l d)) at x) (wrote-then (rw (told, from-place d (l + 1)) at y) (rw (from-place d (l + 1)) at z))))
 
+-- how much stands behind a place
+pub behind-size : (d : List ℕ) (k : ℕ) → length (take (length d - k) (drop k d)) ≡ length d - k
+behind-size d k = ap length (from-place d k) ∙ length-drop k d
+
 -- ---- a frame
 
 pub has-count : (l n : ℕ) (d : List ℕ) → some n ≡ countOf (parseOf l d) → Has l d n
 has-count l n d e = found-has l d (Found n) e n refl
+
+-- where its parts stand
+pub record Sizes (l n size : ℕ) : Type 0 where
+  pub few : n ≤ 8
+  pub front : 2 * (l + 1) ≤ size
+  pub behind : n * (l + 1) ≤ size - 2 * (l + 1)
+  pub end : (n + 2) * (l + 1) + 2 ≤ size
+
+pub sizes : (l n : ℕ) (d : List ℕ) → some n ≡ countOf (parseOf l d) → Sizes l n (length d)
+sizes l n d e =
+    let has = has-count l n d e in
+    let m = add-mul n 2 (l + 1) in
+    record { few = has .few; front = omega (arith, has .total, m); behind = omega (arith, has .total, m); end = omega (arith, has .total) }
 
 module _ (l : ℕ) (d : List ℕ) where
   pub monitor-none : parseOf l d ≡ none → monitorOf l d ≡ shown d
@@ -107,3 +129,12 @@ module _ (l n : ℕ) (d : List ℕ) (has : Has l d n) where
       (wrote-then more
       (wrote-then (rw map-up at dest)
       (wrote-then (rw (from-place d (2 * (l + 1))) at via) (wrote-then colon (rw (from-place d ((n + 2) * (l + 1) + 2)) at info))))))
+
+-- ---- a call
+
+pub call-shown : (r : Call) (t : List ℕ) → textOf r ≡ t → r .len ≤ 10 → {b c : List ℕ} {at p : ℕ}
+    → Wrote b at (shown (take (r .len - 0) (drop 0 (r .bytes)))) c p → Wrote b at (shown t) c p × (p ≤ at + 60)
+call-shown r t e h w =
+    let front : take (r .len - 0) (drop 0 (r .bytes)) ≡ t = text-front r ∙ e in
+    let few : length t ≤ r .len = rw (← front) (rw sub-zero (omega (arith, length-take (r .len) (r .bytes)))) in
+    (rw front at w, omega (arith, (rw front at w) .next-is, shown-length t, few))

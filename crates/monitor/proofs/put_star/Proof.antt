@@ -1,29 +1,29 @@
+-- `monitor::put_star` meets its contract.
+-- Assumes nothing.
 use borrow.Author.Needs.{needs}
+use native.Mathlib.Omega.{arith}
+use borrow.Author.Tests.{not-true, not-false}
+use Rattle.laws.proofs.WroteLaws.{wrote-none}
+use Rattle.monitor.proofs.MonitorLaws.{star-unheard, star-later, star-last}
 use Rattle.monitor.proofs.put_star.Statement.{statement}
 use Rattle.monitor.proofs.put_star.Tie as tie
-use Rattle.monitor.proofs.put_star.Reads as reads
-use Rattle.monitor.proofs.put_star.Lts as lts
-use Rattle.bits.proofs.write.byte.Reads as byte-reads
 
--- src/lib.rt:52:9
 returns : tie.Need-returns
-returns c = ?
+returns c = (rw (star-unheard _ _ (not-true _ (c .if1 .taken))) wrote-none, omega arith)
 
--- src/lib.rt:55:9
 returns-2 : tie.Need-returns-2
-returns-2 c = ?
+returns-2 c = (rw (star-later _ (c .before .before .before .args .heard) (c .if2 .taken)) wrote-none, omega arith)
 
--- src/lib.rt:57:5
 byte-requires : tie.Need-byte-requires
 byte-requires c κs = search needs
 
--- src/lib.rt:47:1
 same-length : tie.Need-same-length
 same-length c = search needs
 
--- src/lib.rt:47:1
 returns-3 : tie.Need-returns-3
-returns-3 c = ?
+returns-3 c =
+    let w = c .before .before .byte .ensures in
+    (rw (star-last _ _ (not-false _ (c .before .before .before .before .before .if1 .left)) (c .before .before .before .before .if2 .left)) w, omega (arith, w .next-is))
 
 pub put-star-spec : {M : Type 1} → statement M
 put-star-spec = tie.close (tie.spec returns returns-2 byte-requires same-length returns-3)
