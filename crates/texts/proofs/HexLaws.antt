@@ -10,13 +10,13 @@ use native.Mathlib.Omega.{arith}
 use lib.ListN.{length, getD, take, drop, length-append, drop-of-length-le}
 use lib.Seq.{sets, drop-cons, take-suc, take-all}
 use lib.Dec.{eqb, ltb}
-use borrow.Author.Tests.{le-leb, lt-leb, lt-ltb, le-ltb, ltb-true, eq-eqb, ne-eqb}
+use borrow.Author.Tests.{le-leb, lt-leb, lt-ltb, le-ltb, ltb-true, ltb-false, eq-eqb, ne-eqb}
 use Rattle.laws.specs.Pick.{pick}
 use Rattle.laws.specs.Text.{between}
-use Rattle.laws.specs.Wrote.{Wrote}
-use Rattle.laws.proofs.Cases.{pick-true, pick-false, and-left, and-right}
+use Rattle.laws.proofs.Cases.{by-test, pick-true, pick-false, and-left, and-right}
+use Rattle.laws.proofs.ListLaws.{take-sets}
 use Rattle.laws.proofs.TrimLaws.{between-yes, between-above}
-use Rattle.texts.specs.Hex.{hexValue, isHex, bytesOf, readInto}
+use Rattle.texts.specs.Hex.{hexValue, isHex, bytesOf, readOf, leftBy}
 use Rattle.texts.specs.declared.hex.Read.{Read}
 use Rattle.texts.specs.declared.hex.Read.the-variants.{Bytes, NoDigit, Odd, TooLong}
 
@@ -114,24 +114,63 @@ bytes-more (x ∷ y ∷ s) (suc i) h =
 
 -- ---- what is read
 
-module _ (s out : List ℕ) where
-  pub read-other : isHex s ≡ false → (_≡_ {A = Read × List ℕ} (NoDigit, out) (readInto s out))
-  unfolding readInto
+module _ (room : ℕ) (s : List ℕ) where
+  pub read-other : isHex s ≡ false → NoDigit ≡ readOf room s
+  unfolding readOf
   read-other e = sym (pick-false _ _ e)
 
   module _ (hex : isHex s ≡ true) where
-    pub read-odd : length s % 2 ≡ 1 → (_≡_ {A = Read × List ℕ} (Odd, out) (readInto s out))
-    unfolding readInto
+    pub read-odd : length s % 2 ≡ 1 → Odd ≡ readOf room s
+    unfolding readOf
     read-odd h = sym (pick-true _ _ hex ∙ pick-true _ _ (eq-eqb (length s % 2) 1 h))
 
     module _ (even : length s % 2 ≡ 1 → ⊥) where
-      pub read-long : length out < length s / 2 → (_≡_ {A = Read × List ℕ} (TooLong, out) (readInto s out))
-      unfolding readInto
-      read-long h = sym (pick-true _ _ hex ∙ (pick-false _ _ (ne-eqb (length s % 2) 1 even) ∙ pick-true _ _ (lt-ltb (length out) (length s / 2) h)))
+      pub read-long : room < length s / 2 → TooLong ≡ readOf room s
+      unfolding readOf
+      read-long h = sym (pick-true _ _ hex ∙ (pick-false _ _ (ne-eqb (length s % 2) 1 even) ∙ pick-true _ _ (lt-ltb room (length s / 2) h)))
 
-      pub read-all : length s / 2 ≤ length out → (t : List ℕ) → Wrote out 0 (bytesOf s) t (length s / 2)
-          → (_≡_ {A = Read × List ℕ} (Bytes (length s / 2), t) (readInto s out))
-      unfolding readInto
-      read-all h t w =
-          ap (λ (x : List ℕ). (Bytes (length s / 2), x)) (w .stored)
-          ∙ sym (pick-true _ _ hex ∙ (pick-false _ _ (ne-eqb (length s % 2) 1 even) ∙ pick-false _ _ (le-ltb (length out) (length s / 2) h)))
+      pub read-all : length s / 2 ≤ room → Bytes (length s / 2) ≡ readOf room s
+      unfolding readOf
+      read-all h = sym (pick-true _ _ hex ∙ (pick-false _ _ (ne-eqb (length s % 2) 1 even) ∙ pick-false _ _ (le-ltb room (length s / 2) h)))
+
+-- ---- how many bytes there are
+
+bytes-length : (s : List ℕ) → length (bytesOf s) ≡ length s / 2
+unfolding bytesOf
+bytes-length [] = refl
+bytes-length (h ∷ []) = refl
+bytes-length (h ∷ l ∷ s) =
+    let e : length (h ∷ l ∷ s) / 2 ≡ suc (length s / 2) = omega arith in
+    rw (e, bytes-length s)
+
+-- what was read stands in front: so many bytes, for which there was room
+pub read-back : (room : ℕ) (s : List ℕ) (n : ℕ) → Bytes n ≡ readOf room s → (n ≡ length (bytesOf s)) × (length (bytesOf s) ≤ room)
+unfolding readOf
+read-back room s n e =
+    by-test (isHex s)
+    (λ t. by-test (eqb (length s % 2) 1)
+    (λ u. absurd (bytes-not-odd n (e ∙ pick-true _ _ t ∙ pick-true _ _ u)))
+    (λ u. by-test (ltb room (length s / 2))
+    (λ v. absurd (bytes-not-long n (e ∙ pick-true _ _ t ∙ pick-false _ _ u ∙ pick-true _ _ v)))
+    (λ v.
+    let k : n ≡ length s / 2 = same-bytes n (length s / 2) (e ∙ pick-true _ _ t ∙ pick-false _ _ u ∙ pick-false _ _ v) in
+    (omega (arith, k, bytes-length s), omega (arith, bytes-length s, ltb-false room (length s / 2) v)))))
+    (λ t. absurd (bytes-not-other n (e ∙ pick-false _ _ t)))
+  where
+    same-bytes : (m k : ℕ) → Bytes m ≡ Bytes k → m ≡ k
+    same-bytes m k q = cc
+    bytes-not-odd : (m : ℕ) → Bytes m ≡ Odd → ⊥
+    bytes-not-odd m q = let z : _≡_ {A = ℕ} 0 1 = cc in omega arith
+    bytes-not-long : (m : ℕ) → Bytes m ≡ TooLong → ⊥
+    bytes-not-long m q = let z : _≡_ {A = ℕ} 0 1 = cc in omega arith
+    bytes-not-other : (m : ℕ) → Bytes m ≡ NoDigit → ⊥
+    bytes-not-other m q = let z : _≡_ {A = ℕ} 0 1 = cc in omega arith
+
+pub read-front : (room : ℕ) (s out t : List ℕ) (r : Read) (n : ℕ) → r ≡ readOf room s → t ≡ leftBy r s out → r ≡ Bytes n → length out ≡ room → take n t ≡ bytesOf s
+unfolding leftBy
+read-front room s out t r n e l told size =
+    let k = read-back room s n (sym told ∙ e) in
+    let z : 0 + length (bytesOf s) ≡ n = omega arith in
+    ap (take n) (l ∙ ap (λ (q : Read). leftBy q s out) told)
+    ∙ ap (λ (m : ℕ). take m (sets out 0 (bytesOf s))) (sym z)
+    ∙ take-sets out 0 (bytesOf s) (omega (arith, k .1, size))

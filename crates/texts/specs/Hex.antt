@@ -40,11 +40,16 @@ bytesOf [] = []
 bytesOf (h ∷ []) = []
 bytesOf (h ∷ l ∷ s) = (hexValue h * 16 + hexValue l) ∷ bytesOf s
 
--- what is read of a text, and the lent output afterwards
-unfoldable pub readInto : List ℕ → List ℕ → Read × List ℕ
-readInto s out =
+-- what is read of a text where there is room for so many bytes
+unfoldable pub readOf : ℕ → List ℕ → Read
+readOf room s =
     pick (isHex s)
-    (pick (eqb (length s % 2) 1)
-    (Odd, out)
-    (pick (ltb (length out) (length s / 2)) (TooLong, out) (Bytes (length s / 2), sets out 0 (bytesOf s))))
-    (NoDigit, out)
+    (pick (eqb (length s % 2) 1) Odd (pick (ltb room (length s / 2)) TooLong (Bytes (length s / 2))))
+    NoDigit
+
+-- the lent output afterwards
+unfoldable pub leftBy : Read → List ℕ → List ℕ → List ℕ
+leftBy (Bytes n) s out = sets out 0 (bytesOf s)
+leftBy NoDigit s out = out
+leftBy Odd s out = out
+leftBy TooLong s out = out

@@ -1,10 +1,10 @@
 // Bytes in hexadecimal, two digits each: written in capitals, read in capitals and small letters.
 ghost use mathlib.Core.Path.{_≡_};
-ghost use mathlib.Core.Bool.{Bool, true, false};
-ghost use Prim.Native.Nat.{_+_, _*_, _^_, _≤_, _<_};
+ghost use mathlib.Core.Bool.{true};
+ghost use Prim.Native.Nat.{_*_, _^_, _≤_, _<_};
 ghost use lib.ListN.{length};
 ghost use Rattle.laws.specs.Wrote.{Wrote};
-ghost use Rattle.texts.specs.Hex.{digitOf, hexByte, hexOf, hexValue, isHex, bytesOf, readInto};
+ghost use Rattle.texts.specs.Hex.{digitOf, hexByte, hexOf, hexValue, isHex, bytesOf, readOf, leftBy};
 use bits::write::byte;
 
 const DIGITS: [u8; 16] = *b"0123456789ABCDEF";
@@ -90,7 +90,7 @@ fn pairs(text: &[u8], n: usize, out: &mut [u8])
 
 // Puts the bytes that a text spells at the front of `out`. Where something is wrong `out` is as before.
 pub fn read_hex(text: &[u8], out: &mut [u8]) -> Read
-    ensures { λ r. ⌜ (r, now (out .exit)) ≡ readInto (now (text .entry)) (now (out .entry)) ⌝ }
+    ensures { λ r. ⌜ (r ≡ readOf (length (now (out .entry))) (now (text .entry))) × (now (out .exit) ≡ leftBy r (now (text .entry)) (now (out .entry))) ⌝ }
 {
     if !is_hex(text) {
         return Read::NoDigit;
