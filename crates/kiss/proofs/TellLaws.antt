@@ -68,16 +68,16 @@ module _ {A B : Type 0} (bytes : A → List ℕ) (value : A → B) (out t : List
   told-answer (answer a) n b e =
       by-le (length (bytes a)) (length out)
       (λ h.
-        let q = e ∙ sym (fits bytes value out a h) in
-        let both = same-answer (ap (λ p. p .0) q) in
-        let size : n ≡ length (bytes a) = ap (λ p. p .0) both in
-        record {
-          it = a;
-          is = refl;
-          fits-in = h;
-          beside = ap (λ p. p .1) both;
-          front = ap (take n) (ap (λ p. p .1) q) ∙ ap (λ (k : ℕ). take k (sets out 0 (bytes a))) (size ∙ sym (zero-add (length (bytes a)))) ∙ take-sets out 0 (bytes a) (omega arith);
-        })
+      let q = e ∙ sym (fits bytes value out a h) in
+      let both = same-answer (ap (λ p. p .0) q) in
+      let size : n ≡ length (bytes a) = ap (λ p. p .0) both in
+      record {
+        it = a;
+        is = refl;
+        fits-in = h;
+        beside = ap (λ p. p .1) both;
+        front = ap (take n) (ap (λ p. p .1) q) ∙ ap (λ (k : ℕ). take k (sets out 0 (bytes a))) (size ∙ sym (zero-add (length (bytes a)))) ∙ take-sets out 0 (bytes a) (omega arith);
+      })
       (λ h. absurd (answer-not (ap (λ p. p .0) (e ∙ sym (short bytes value out a h)))))
 
   -- a refusal is the call's own, or 6 where the output is too short

@@ -1,7 +1,8 @@
 // Reads lines from standard input, `ax25 HEX`, `long HEX`, `generic HEX` or `text TEXT`, and writes the frames of each.
 mod line;
 
-ghost use Prim.Native.Nat.{_≤_, _<_};
+ghost use Prim.Native.Nat.{_^_, _<_};
+ghost use lib.ListN.{length};
 use input::Arguments;
 use input::Stand;
 use input::mask_of;
@@ -34,7 +35,9 @@ fn main() {
 }
 
 // Answers every line.
-fn lines(field: usize, mask: u8, chunk: &mut [u8], line: &mut [u8], out: &mut [u8]) {
+fn lines(field: usize, mask: u8, chunk: &mut [u8], line: &mut [u8], out: &mut [u8])
+    requires { ⌜ (length (now chunk) < 2 ^ 60) × (length (now line) < 2 ^ 60) ⌝ }
+{
     let mut stand = input::start();
     let mut turns = u64::MAX;
     while 0 < turns {

@@ -159,10 +159,13 @@ read-back room s n e =
   where
     same-bytes : (m k : ℕ) → Bytes m ≡ Bytes k → m ≡ k
     same-bytes m k q = cc
+
     bytes-not-odd : (m : ℕ) → Bytes m ≡ Odd → ⊥
     bytes-not-odd m q = let z : _≡_ {A = ℕ} 0 1 = cc in omega arith
+
     bytes-not-long : (m : ℕ) → Bytes m ≡ TooLong → ⊥
     bytes-not-long m q = let z : _≡_ {A = ℕ} 0 1 = cc in omega arith
+
     bytes-not-other : (m : ℕ) → Bytes m ≡ NoDigit → ⊥
     bytes-not-other m q = let z : _≡_ {A = ℕ} 0 1 = cc in omega arith
 

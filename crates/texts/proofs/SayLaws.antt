@@ -1,12 +1,19 @@
--- The command of a word, test by test.
+-- The command of a word, test by test, and a text that spells no bytes.
 -- Assumes nothing.
 use mathlib.Core.Path.{_≡_, sym, _∙_}
-use mathlib.Core.List.{List}
+use mathlib.Core.List.{List, [], _∷_}
+use mathlib.Core.Logic.{⊎-elim}
 use Prim.Native.Nat.{ℕ}
+use native.Mathlib.Omega.{arith}
+use denote.Enum.Declared.{tagOf}
+use types.Run.{OneOf}
 use Rattle.laws.specs.Text.{ascii, same}
 use Rattle.laws.proofs.Cases.{pick-true, pick-false}
 use Rattle.laws.proofs.TextLaws.{eq-same, ne-same}
 use Rattle.texts.specs.Say.{commandOf}
+use Rattle.texts.specs.declared.hex.Read.{Read}
+use Rattle.texts.specs.declared.hex.Read.the-variants.{Bytes}
+use Rattle.texts.proofs.hex.Read.{the-type}
 
 module _ (w : List ℕ) where
   pub command-ax25 : w ≡ ascii "ax25" → 0 ≡ commandOf w
@@ -30,3 +37,10 @@ module _ (w : List ℕ) where
       command-none e =
           sym (pick-false _ _ (ne-same w (ascii "ax25") no-ax25)
           ∙ (pick-false _ _ (ne-same w (ascii "long") no-long) ∙ pick-false _ _ (ne-same w (ascii "generic") e)))
+
+-- what is left where a text spells no bytes: the tags of the other answers
+pub not-bytes : (r : Read) → OneOf (1 ∷ 2 ∷ 3 ∷ []) (tagOf the-type r) → (n : ℕ) → r ≡ Bytes n → ⊥
+not-bytes r k n e = never (rw e at k)
+  where
+    never : OneOf (1 ∷ 2 ∷ 3 ∷ []) (tagOf the-type (Bytes n)) → ⊥
+    never q = ⊎-elim (λ z. omega arith) (λ w. ⊎-elim (λ z. omega arith) (λ z. omega arith) w) q
