@@ -75,7 +75,7 @@ fn put_via(f: &[u8], l: usize, n: usize, out: &mut [u8], at: usize) -> usize
 // A frame of n digipeaters. The next place.
 fn put_frame(frame: &[u8], l: usize, n: usize, out: &mut [u8], at: usize) -> usize
     requires { ⌜ (l ≤ 7) × (some n ≡ countOf (parseOf l (now frame))) × (length (now frame) < 2 ^ 56) × (at < 2 ^ 57) ⌝ }
-    ensures { λ r. ⌜ Wrote (now (out .entry)) at (monitorOf l (now (frame .entry))) (now (out .exit)) r ⌝ }
+    ensures { λ r. ⌜ Wrote (now (out .entry)) at (monitorOf l (now (frame .entry))) (now (out .exit)) r × (r ≤ at + length (now (frame .entry)) * 6 + 700) ⌝ }
 {
     let end = addr_end(n, l);
     let p = put_call(&frame[l + 1..], l, true, out, at);
@@ -89,7 +89,7 @@ fn put_frame(frame: &[u8], l: usize, n: usize, out: &mut [u8], at: usize) -> usi
 // A frame under Ax25, 0, or Ax25Long, 1; bytes that are too short for one as they are shown. The next place.
 pub fn put_monitor(command: u8, frame: &[u8], out: &mut [u8], at: usize) -> usize
     requires { ⌜ (length (now frame) < 2 ^ 56) × (at < 2 ^ 57) ⌝ }
-    ensures { λ r. ⌜ Wrote (now (out .entry)) at (monitorOf (callLen command) (now (frame .entry))) (now (out .exit)) r ⌝ }
+    ensures { λ r. ⌜ Wrote (now (out .entry)) at (monitorOf (callLen command) (now (frame .entry))) (now (out .exit)) r × (r ≤ at + length (now (frame .entry)) * 6 + 700) ⌝ }
 {
     let l = ax25_address::record::call_len(command);
     let Digis::Found(n) = digipeaters(frame, l) else {

@@ -2,7 +2,7 @@
 mod line;
 
 ghost use mathlib.Core.Path.{_≡_};
-ghost use Prim.Native.Nat.{_≤_, _<_};
+ghost use Prim.Native.Nat.{_^_, _<_};
 ghost use lib.ListN.{length};
 use input::Arguments;
 use input::Stand;
@@ -10,7 +10,7 @@ use input::mask_of;
 use input::next;
 use input::numbers;
 use input::print;
-use line::Said;
+use line::Step;
 use receiver::Fresh;
 use receiver::Reassembler;
 use texts::part::front;
@@ -73,7 +73,9 @@ fn lines(
     space: &mut [u8],
     data: &mut [u8],
     out: &mut [u8],
-) {
+)
+    requires { ⌜ (length (now chunk) < 2 ^ 60) × (length (now line) < 2 ^ 60) × (length (now «data») < 2 ^ 50) ⌝ }
+{
     let mut stand = input::start();
     let mut state = receiver;
     let mut turns = u64::MAX;
@@ -98,10 +100,12 @@ fn answer(
     field: usize,
     data: &mut [u8],
     out: &mut [u8],
-) -> Said {
+) -> Step
+    requires { ⌜ length (now «data») < 2 ^ 50 ⌝ }
+{
     let n = stand.len;
     if line.len() < n {
-        return Said {
+        return Step {
             size: put_error(out, 0, stand.number, b"too long"),
             receiver: state,
         };

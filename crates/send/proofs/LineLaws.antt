@@ -39,13 +39,11 @@ use Rattle.kiss.proofs.TellLaws as Coding
 use Rattle.kiss.proofs.TellLaws.{told-answer, told-refused}
 use Rattle.texts.specs.Hex.{hexOf}
 use Rattle.texts.specs.Part.{before, behind, pieceOf}
-use Rattle.texts.specs.Say.{commandOf, refusalLine, errorLine, unreadLine}
-use Rattle.texts.specs.declared.hex.Read.{Read}
-use Rattle.texts.specs.declared.hex.Read.the-variants as read
+use Rattle.texts.specs.Say.{commandOf, refusalLine, errorLine}
 use Rattle.texts.proofs.ShowLaws.{hex-length}
 use Rattle.send.specs.declared.line.Sent.{Sent}
 use Rattle.send.specs.declared.line.Sent.the-variants as sent
-use Rattle.send.specs.Line.{plain, marker, framedOf, linedBy, framesOf, dataText, spelledBy, spelledText, lineText, Sends}
+use Rattle.send.specs.Line.{plain, marker, framedOf, linedBy, framesOf, dataText, spelledText, lineText, Sends}
 
 -- ---- an answer with a lent output
 
@@ -226,13 +224,6 @@ module _ (command : ℕ) (d out t : List ℕ) (r : Encoded) (e : (encodedOf r, t
       told-answer (λ c. c .bytes) (λ c. c .typ) out t (codeOf command d) n (typeNumber typ) (ap (λ (x : Encoded). (encodedOf x, t)) (sym told) ∙ e)
 
 -- ---- a line
-
-pub unread-by : (number : ℕ) (text : List ℕ) (r : Read) → ((n : ℕ) → r ≡ read.Bytes n → ⊥) → spelledBy number text r ≡ unreadLine number r
-unfolding spelledBy
-unread-by number text (read.Bytes n) f = absurd (f n refl)
-unread-by number text read.NoDigit f = refl
-unread-by number text read.Odd f = refl
-unread-by number text read.TooLong f = refl
 
 module _ (field mask number : ℕ) (line : List ℕ) where
   pub line-none : length line ≡ 0 → lineText field mask number line ≡ []

@@ -17,9 +17,7 @@ use Rattle.ax25.specs.Encode.{Coded}
 use Rattle.kiss.specs.Codec.{codeOf}
 use Rattle.texts.specs.Hex.{hexOf, bytesOf, readOf}
 use Rattle.texts.specs.Part.{before, behind}
-use Rattle.texts.specs.Say.{commandOf, refusalLine, errorLine, unreadLine}
-use Rattle.texts.specs.declared.hex.Read.{Read}
-use Rattle.texts.specs.declared.hex.Read.the-variants.{Bytes, NoDigit, Odd, TooLong}
+use Rattle.texts.specs.Say.{commandOf, lineRoom, refusalLine, errorLine, readOr}
 use Rattle.send.specs.declared.line.Sent.{Sent}
 use Rattle.send.specs.declared.line.Sent.the-variants.{Next, Refused}
 
@@ -30,10 +28,6 @@ plain = record { reply = 0; compressed = false; hint = 0 }
 -- and marker 01
 abbrev pub marker : ℕ
 marker = 1
-
--- the longest line
-abbrev pub lineRoom : ℕ
-lineRoom = 16384
 
 -- ---- a message
 
@@ -66,15 +60,9 @@ dataText field mask command d = codedText field mask (codeOf command d)
 
 -- ---- a line
 
-unfoldable pub spelledBy : ℕ → List ℕ → Read → List ℕ
-spelledBy number text (Bytes n) = text
-spelledBy number text NoDigit = unreadLine number NoDigit
-spelledBy number text Odd = unreadLine number Odd
-spelledBy number text TooLong = unreadLine number TooLong
-
 -- bytes in hexadecimal under a command
 unfoldable pub spelledText : ℕ → ℕ → ℕ → ℕ → List ℕ → List ℕ
-spelledText field mask number command s = spelledBy number (dataText field mask command (bytesOf s)) (readOf lineRoom s)
+spelledText field mask number command s = readOr number (dataText field mask command (bytesOf s)) (readOf lineRoom s)
 
 -- `text TEXT`, or a command and hexadecimal. Nothing is said of an empty line
 unfoldable pub lineText : ℕ → ℕ → ℕ → List ℕ → List ℕ

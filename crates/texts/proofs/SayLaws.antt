@@ -1,6 +1,6 @@
 -- The command of a word, test by test, and a text that spells no bytes.
 -- Assumes nothing.
-use mathlib.Core.Path.{_≡_, sym, _∙_}
+use mathlib.Core.Path.{_≡_, refl, sym, _∙_}
 use mathlib.Core.List.{List, [], _∷_}
 use mathlib.Core.Logic.{⊎-elim}
 use Prim.Native.Nat.{ℕ}
@@ -10,9 +10,9 @@ use types.Run.{OneOf}
 use Rattle.laws.specs.Text.{ascii, same}
 use Rattle.laws.proofs.Cases.{pick-true, pick-false}
 use Rattle.laws.proofs.TextLaws.{eq-same, ne-same}
-use Rattle.texts.specs.Say.{commandOf}
+use Rattle.texts.specs.Say.{commandOf, unreadLine, readOr}
 use Rattle.texts.specs.declared.hex.Read.{Read}
-use Rattle.texts.specs.declared.hex.Read.the-variants.{Bytes}
+use Rattle.texts.specs.declared.hex.Read.the-variants.{Bytes, NoDigit, Odd, TooLong}
 use Rattle.texts.proofs.hex.Read.{the-type}
 
 module _ (w : List ℕ) where
@@ -44,3 +44,10 @@ not-bytes r k n e = never (rw e at k)
   where
     never : OneOf (1 ∷ 2 ∷ 3 ∷ []) (tagOf the-type (Bytes n)) → ⊥
     never q = ⊎-elim (λ z. omega arith) (λ w. ⊎-elim (λ z. omega arith) (λ z. omega arith) w) q
+
+pub unread-by : (number : ℕ) (text : List ℕ) (r : Read) → ((n : ℕ) → r ≡ Bytes n → ⊥) → readOr number text r ≡ unreadLine number r
+unfolding readOr
+unread-by number text (Bytes n) f = absurd (f n refl)
+unread-by number text NoDigit f = refl
+unread-by number text Odd f = refl
+unread-by number text TooLong f = refl

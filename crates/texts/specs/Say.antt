@@ -42,3 +42,14 @@ unreadLine number (Bytes n) = []
 unreadLine number NoDigit = errorLine number (ascii "no hexadecimal digit")
 unreadLine number Odd = errorLine number (ascii "an odd number of digits")
 unreadLine number TooLong = errorLine number (ascii "too long")
+
+-- what is said where a text spells bytes, or the error
+unfoldable pub readOr : ℕ → List ℕ → Read → List ℕ
+readOr number text (Bytes n) = text
+readOr number text NoDigit = unreadLine number NoDigit
+readOr number text Odd = unreadLine number Odd
+readOr number text TooLong = unreadLine number TooLong
+
+-- the longest line
+abbrev pub lineRoom : ℕ
+lineRoom = 16384

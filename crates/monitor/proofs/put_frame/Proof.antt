@@ -1,10 +1,11 @@
 -- `monitor::put_frame` meets its contract.
 -- Assumes nothing.
 use borrow.Author.Needs.{needs}
-use Prim.Native.Nat.{_+_, _*_, _^_, _≤_, _<_}
+use Prim.Native.Nat.{_+_, _-_, _*_, _^_, _≤_, _<_}
 use native.Mathlib.Omega.{arith}
-use lib.ListN.{length}
+use lib.ListN.{length, take, drop}
 use denote.Ref.{now}
+use Rattle.texts.proofs.ShowLaws.{shown-length}
 use Rattle.monitor.proofs.MonitorLaws.{behind-size, has-count, sizes, frame-lined}
 use Rattle.monitor.proofs.put_frame.Statement.{statement}
 use Rattle.monitor.proofs.put_frame.Tie as tie
@@ -135,8 +136,12 @@ returns c =
     let start = c .before .before .before .before .before .before .before .before .before .before .before .before .before .before .before .before .before .before .before .before .before .before .before .before .before .before .before .before .before .before in
     let a = start .args in
     let has = has-count (a .l) (a .n) (now (a .frame)) (start .pre .1) in
-    frame-lined (a .l) (a .n) (now (a .frame)) has (c .before .before .before .before .before .before .before .before .before .before .before .before .before .before .before .before .before .before .before .before .before .before .before .before .put-call .ensures .0) (c .before .before .before .before .before .before .before .before .before .before .before .before .before .before .before .before .before .before .before .before .byte .ensures) (c .before .before .before .before .before .before .before .before .before .before .before .before .before .before .before .before .put-call2 .ensures .0) (c .before .before .before .before .before .before .before .before .before .before .before .put-via .ensures .0) (c .before .before .before .before .before .before .before .byte2 .ensures)
-    (rw (c .before .before .before .before .before .before .before .before .before .before .before .before .before .before .before .before .before .before .before .before .before .before .before .before .before .before .before .addr-end .ensures) at (c .before .before .put-shown .ensures))
+    let lined = frame-lined (a .l) (a .n) (now (a .frame)) has (c .before .before .before .before .before .before .before .before .before .before .before .before .before .before .before .before .before .before .before .before .before .before .before .before .put-call .ensures .0) (c .before .before .before .before .before .before .before .before .before .before .before .before .before .before .before .before .before .before .before .before .byte .ensures) (c .before .before .before .before .before .before .before .before .before .before .before .before .before .before .before .before .put-call2 .ensures .0) (c .before .before .before .before .before .before .before .before .before .before .before .put-via .ensures .0) (c .before .before .before .before .before .before .before .byte2 .ensures) (rw (c .before .before .before .before .before .before .before .before .before .before .before .before .before .before .before .before .before .before .before .before .before .before .before .before .before .before .before .addr-end .ensures) at (c .before .before .put-shown .ensures)) in
+    let z = sizes (a .l) (a .n) (now (a .frame)) (start .pre .1) in
+    let info = c .before .before .put-shown .ensures .next-is in
+    let few = shown-length (take (length (now (a .frame)) - (c .before .before .before .before .before .before .before .before .before .before .before .before .before .before .before .before .before .before .before .before .before .before .before .before .before .before .before .addr-end .result + 2)) (drop (c .before .before .before .before .before .before .before .before .before .before .before .before .before .before .before .before .before .before .before .before .before .before .before .before .before .before .before .addr-end .result + 2) (now (a .frame)))) in
+    let short = behind-size (now (a .frame)) (c .before .before .before .before .before .before .before .before .before .before .before .before .before .before .before .before .before .before .before .before .before .before .before .before .before .before .before .addr-end .result + 2) in
+    (lined, omega (arith, info, few, short, z .few, c .before .before .before .before .before .before .before .byte2 .ensures .next-is, c .before .before .before .before .before .before .before .before .before .before .before .put-via .ensures .1, c .before .before .before .before .before .before .before .before .before .before .before .before .before .before .before .before .put-call2 .ensures .1, c .before .before .before .before .before .before .before .before .before .before .before .before .before .before .before .before .before .before .before .before .byte .ensures .next-is, c .before .before .before .before .before .before .before .before .before .before .before .before .before .before .before .before .before .before .before .before .before .before .before .before .put-call .ensures .1))
 
 pub put-frame-spec : {M : Type 1} → statement M
 put-frame-spec =

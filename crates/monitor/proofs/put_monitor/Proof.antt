@@ -7,6 +7,7 @@ use denote.Ref.{now}
 use Rattle.ax25_address.specs.Digis.{digisOf}
 use Rattle.ax25_address.proofs.PlaceLaws.{short-none}
 use Rattle.ax25_address.proofs.RecordLaws.{call-size}
+use Rattle.texts.proofs.ShowLaws.{shown-length}
 use Rattle.monitor.proofs.MonitorLaws.{monitor-none}
 use Rattle.monitor.proofs.put_monitor.Statement.{statement}
 use Rattle.monitor.proofs.put_monitor.Tie as tie
@@ -36,7 +37,8 @@ returns c =
     let letters = c .before .before .before .before .before .before .before .call-len in
     let a = c .before .before .before .before .before .before .before .before .before .before .args in
     let none = short-none (letters .result) (now (a .frame)) _ (c .before .before .before .before .before .before .digipeaters .ensures) (c .before .before .before .before .enum-told .given .1) in
-    rw (← letters .ensures, monitor-none (letters .result) (now (a .frame)) none) (c .before .before .put-shown .ensures)
+    let w = c .before .before .put-shown .ensures in
+    (rw (← letters .ensures, monitor-none (letters .result) (now (a .frame)) none) w, omega (arith, w .next-is, shown-length (now (a .frame))))
 
 put-frame-requires : tie.Need-put-frame-requires
 put-frame-requires c κs =
@@ -49,7 +51,9 @@ same-length-2 : tie.Need-same-length-2
 same-length-2 c = search needs
 
 returns-2 : tie.Need-returns-2
-returns-2 c = rw (← c .before .before .before .before .before .before .before .before .call-len .ensures) (c .before .before .put-frame .ensures)
+returns-2 c =
+    let w = c .before .before .put-frame .ensures in
+    (rw (← c .before .before .before .before .before .before .before .before .call-len .ensures) (w .0), w .1)
 
 pub put-monitor-spec : {M : Type 1} → statement M
 put-monitor-spec =

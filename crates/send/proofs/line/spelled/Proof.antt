@@ -5,9 +5,9 @@ use mathlib.Core.Path.{_≡_, sym, _∙_}
 use denote.Ref.{now}
 use Rattle.texts.specs.Hex.{readOf}
 use Rattle.texts.proofs.HexLaws.{read-front}
-use Rattle.texts.proofs.SayLaws.{not-bytes}
-use Rattle.send.specs.Line.{lineRoom, spelledBy, spelledText}
-use Rattle.send.proofs.LineLaws.{unread-by}
+use Rattle.texts.specs.Say.{lineRoom, readOr}
+use Rattle.texts.proofs.SayLaws.{not-bytes, unread-by}
+use Rattle.send.specs.Line.{spelledText}
 use Rattle.send.proofs.line.spelled.Statement.{statement}
 use Rattle.send.proofs.line.spelled.Tie as tie
 
@@ -49,7 +49,7 @@ same-length-2 : tie.Need-same-length-2
 same-length-2 c = search needs
 
 returns-2 : tie.Need-returns-2
-unfolding spelledText spelledBy
+unfolding spelledText readOr
 returns-2 c =
     let read = c .before .before .before .before .before .before .before .before .before .before .read-hex in
     let text = now (c .before .before .before .before .before .before .before .before .before .before .before .before .before .before .before .args .text) in

@@ -50,8 +50,8 @@ loop-again : tie.Need-loop-again Inv-loop μ-loop
 loop-again c =
     let l = c .before .before .before .before .before .before in
     let digit = c .before .before .before .with-digit in
-    let next = number-next _ _ _ (c .before .before .before .before .before .loop-test .taken) _ (sym (ap numberIs (c .before .w .given .1)) ∙ digit .ensures) in
-    (search needs, next ∙ l .loop .inv .1)
+    let told = sym (ap numberIs (c .before .w .given .1)) ∙ digit .ensures in
+    (search needs, number-next _ _ _ (c .before .before .before .before .before .loop-test .taken) _ told ∙ l .loop .inv .1)
 
 returns-3 : tie.Need-returns-3 Inv-loop μ-loop
 returns-3 c =
