@@ -9,11 +9,11 @@ use lines::field::all_hex;
 use lines::field::call_of;
 use lines::field::field;
 use lines::field::fields;
-use lines::field::piece;
 use receiver::Fresh;
 use receiver::Push;
 use receiver::Pushed;
 use receiver::Reassembler;
+use texts::part::piece;
 
 // What comes of a call, and the receiver that it leaves.
 struct Step {

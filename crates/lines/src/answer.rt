@@ -1,8 +1,8 @@
 // A recorded answer, a field or a piece of one, against ours.
-use crate::field::Number;
-use crate::field::decimal;
 use crate::field::hex;
-use crate::field::piece;
+use texts::number::Number;
+use texts::number::decimal;
+use texts::part::piece;
 
 // What comes of a line: the answers are equal, they differ, or the line is not understood.
 pub enum Outcome {

@@ -16,8 +16,8 @@ use lines::field::field;
 use lines::field::inputs;
 use lines::field::last;
 use lines::field::numbers;
-use lines::field::piece;
 use lines::field::two_words;
+use texts::part::piece;
 
 // How many kinds there are.
 pub const KINDS: usize = 15;

@@ -7,10 +7,10 @@ ghost use mathlib.Core.Path.{_≡_};
 ghost use lib.ListN.{length};
 use kinds::KINDS;
 use lines::answer::Outcome;
-use lines::field::find;
 use lines::tell::is_comment;
 use lines::tell::print_counts;
 use lines::tell::print_place;
+use texts::part::find;
 
 // Room for the input. The contract gives only the length, so that no caller's proof unfolds the array.
 // Not optimized, as `rt try` runs it too, the program makes copies of the room that overflow a stack of 8 MiB.

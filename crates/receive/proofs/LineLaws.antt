@@ -1,0 +1,134 @@
+-- What the answers on the way from a line to what is said stand for.
+-- Assumes nothing.
+use mathlib.Core.Path.{_≡_, refl, sym, ap, _∙_}
+use mathlib.Core.List.{List, [], _∷_, _++_}
+use Prim.Native.Nat.{ℕ, _≤_, _<_}
+use native.Mathlib.Omega.{arith}
+use lib.ListN.{length, take}
+use borrow.Author.Tests.{lt-ltb, le-ltb, eq-eqb, ne-eqb}
+use Rattle.laws.specs.Pick.{pick}
+use Rattle.laws.specs.Text.{ascii}
+use Rattle.laws.specs.Wrote.{Wrote}
+use Rattle.laws.proofs.Cases.{pick-true, pick-false}
+use Rattle.refusals.specs.Outcome.{Outcome, refused, answer}
+use Rattle.kiss.specs.Codec.{Decoded}
+use Rattle.kiss.specs.Told.{decodedOf, decodeInto}
+use Rattle.kiss.specs.declared.Decoded as answered
+use Rattle.kiss.specs.declared.Decoded.the-variants as variants
+use Rattle.kiss.proofs.TellLaws.{told-answer, told-refused}
+use Rattle.receiver.specs.Join.{After}
+use Rattle.receiver.specs.Push.{pushOf}
+use Rattle.receiver.specs.declared.Reassembler.{Reassembler}
+use Rattle.ax25_address.specs.Types.{callLen}
+use Rattle.texts.specs.Hex.{hexOf, bytesOf, readOf}
+use Rattle.texts.specs.Say.{lineRoom, wordOf, unreadLine, readOr}
+use Rattle.texts.specs.Show.{shown}
+use Rattle.texts.specs.declared.hex.Read.{Read}
+use Rattle.texts.specs.declared.hex.Read.the-variants.{Bytes, NoDigit, Odd, TooLong}
+use Rattle.texts.proofs.PartLaws.{piece-length}
+use Rattle.texts.proofs.SayLaws.{unread-by}
+use Rattle.monitor.specs.Monitor.{monitorOf}
+use Rattle.receive.specs.Line.{digitsOf, readableOf, within, heardText, lineText, leftBy, lineLeft}
+
+-- ---- a finished message
+
+pub word-few : (command : ℕ) → length (wordOf command) ≤ 17
+unfolding wordOf
+word-few command = piece-length 124 command (ascii "ax25|long|generic")
+
+module _ (d : List ℕ) where
+  pub digits-none : length d ≡ 0 → digitsOf d ≡ []
+  unfolding digitsOf
+  digits-none h = pick-true _ _ (eq-eqb (length d) 0 h)
+
+  pub digits-some : (length d ≡ 0 → ⊥) → digitsOf d ≡ (32 ∷ []) ++ hexOf d
+  unfolding digitsOf
+  digits-some h = pick-false _ _ (ne-eqb (length d) 0 h)
+
+  module _ (command : ℕ) where
+    pub readable-generic : command ≡ 2 → readableOf command d ≡ shown d
+    unfolding readableOf
+    readable-generic h = pick-true _ _ (eq-eqb command 2 h)
+
+    pub readable-frame : (command ≡ 2 → ⊥) → readableOf command d ≡ monitorOf (callLen command) d
+    unfolding readableOf
+    readable-frame h = pick-false _ _ (ne-eqb command 2 h)
+
+-- n bytes were written under a command: those of the decoder's answer, for which there was room
+pub record Handed (o : Outcome Decoded) (room : ℕ) (t : List ℕ) (command n : ℕ) : Type 0 where
+  pub it : Decoded
+  pub is : within room o ≡ answer it
+  pub fits : length (it .bytes) ≤ room
+  pub beside : command ≡ it .command
+  pub front : take n t ≡ it .bytes
+
+module _ (o : Outcome Decoded) (out t : List ℕ) (r : answered.Decoded) (e : (decodedOf r, t) ≡ decodeInto o out) where
+  pub decode-refused : (n : ℕ) → r ≡ variants.Refused n → within (length out) o ≡ refused n
+  unfolding within
+  decode-refused n told =
+      told-refused (λ d. d .bytes) (λ d. d .command) out t o n
+      (ap (λ (x : answered.Decoded). (decodedOf x, t)) (sym told) ∙ e)
+      (λ q. rw q)
+      (λ d q h z. rw (q, z) (pick-true _ _ (lt-ltb (length out) (length (d .bytes)) h)))
+
+  pub decode-bytes : (command n : ℕ) → r ≡ variants.Bytes command n → Handed o (length out) t command n
+  unfolding within
+  decode-bytes command n told =
+      let h =
+      told-answer (λ d. d .bytes) (λ d. d .command) out t o n command (ap (λ (x : answered.Decoded). (decodedOf x, t)) (sym told) ∙ e) in
+      record {
+        it = h .it;
+        is = ap (within (length out)) (h .is) ∙ (pick-false _ _ (le-ltb (length out) (length (h .it .bytes)) (h .fits-in)));
+        fits = h .fits-in;
+        beside = h .beside;
+        front = h .front;
+      }
+
+-- ---- a frame
+
+module _ (x a : After) where
+  -- what a push leaves, part by part
+  pub parted : x ≡ a → {b c : List ℕ} {n : ℕ} (room : ℕ) → Wrote b 0 (heardText room (x .heard)) c n
+      → Wrote b 0 (heardText room (a .heard)) c n × (x .receiver ≡ a .receiver) × (x .store ≡ a .store)
+  parted e room w = (rw (ap (λ (y : After). y .heard) e) at w, ap (λ (y : After). y .receiver) e, ap (λ (y : After). y .store) e)
+
+pub paired : {r q : Reassembler} {s t : List ℕ} {z : Reassembler × List ℕ} → r ≡ q → s ≡ t → (q, t) ≡ z → (r, s) ≡ z
+paired e f g = rw (e, f) g
+
+-- ---- a line
+
+module _ (room field number : ℕ) (r : Reassembler) (store line : List ℕ) where
+  pub line-none : length line ≡ 0 → lineText room field number r store line ≡ []
+  unfolding lineText
+  line-none h = pick-true _ _ (eq-eqb (length line) 0 h)
+
+  module _ (some : length line ≡ 0 → ⊥) (q : Read) (is : q ≡ readOf lineRoom line) where
+    pub line-unread : ((n : ℕ) → q ≡ Bytes n → ⊥) → lineText room field number r store line ≡ unreadLine number q
+    unfolding lineText
+    line-unread other =
+        pick-false _ _ (ne-eqb (length line) 0 some) ∙ rw (← is) (unread-by number _ q other)
+
+    pub line-heard : (n : ℕ) → q ≡ Bytes n → lineText room field number r store line ≡ heardText room (pushOf r store (bytesOf line) field .heard)
+    unfolding lineText readOr
+    line-heard n e = pick-false _ _ (ne-eqb (length line) 0 some) ∙ rw (← is, e)
+
+module _ (field : ℕ) (r : Reassembler) (store line : List ℕ) where
+  pub left-none : length line ≡ 0 → (r, store) ≡ lineLeft field r store line
+  unfolding lineLeft
+  left-none h = sym (pick-true _ _ (eq-eqb (length line) 0 h))
+
+  module _ (some : length line ≡ 0 → ⊥) (q : Read) (is : q ≡ readOf lineRoom line) where
+    left-other : (x : Read) → ((n : ℕ) → x ≡ Bytes n → ⊥) → leftBy (r, store) (pushOf r store (bytesOf line) field) x ≡ (r, store)
+    unfolding leftBy
+    left-other (Bytes n) f = absurd (f n refl)
+    left-other NoDigit f = refl
+    left-other Odd f = refl
+    left-other TooLong f = refl
+
+    pub left-unread : ((n : ℕ) → q ≡ Bytes n → ⊥) → (r, store) ≡ lineLeft field r store line
+    unfolding lineLeft
+    left-unread other = sym (pick-false _ _ (ne-eqb (length line) 0 some) ∙ rw (← is) (left-other q other))
+
+    pub left-heard : (n : ℕ) → q ≡ Bytes n → (pushOf r store (bytesOf line) field .receiver, pushOf r store (bytesOf line) field .store) ≡ lineLeft field r store line
+    unfolding lineLeft leftBy
+    left-heard n e = sym (pick-false _ _ (ne-eqb (length line) 0 some) ∙ rw (← is, e))

@@ -1,0 +1,122 @@
+// Reads frames from standard input, one a line, and writes what comes of each.
+mod line;
+
+ghost use mathlib.Core.Path.{_≡_};
+ghost use Prim.Native.Nat.{_^_, _<_};
+ghost use lib.ListN.{length};
+use input::Arguments;
+use input::Stand;
+use input::mask_of;
+use input::next;
+use input::numbers;
+use input::print;
+use line::Step;
+use receiver::Fresh;
+use receiver::Reassembler;
+use texts::part::front;
+use texts::part::without_cr;
+use texts::say::put_error;
+use texts::say::put_refusal;
+
+// The receiver's store. The contract gives only the length, so that no caller's proof unfolds the array.
+fn store() -> [u8; 5000]
+    ensures { λ r. ⌜ 5000 ≡ length r ⌝ }
+{
+    [0; 5000]
+}
+
+// Room for what is said: a byte takes two digits and at most six characters, and a message has at most 45,762 bytes of data.
+fn room() -> [u8; 400000]
+    ensures { λ r. ⌜ 400000 ≡ length r ⌝ }
+{
+    [0; 400000]
+}
+
+fn main() {
+    let Arguments::Two(field, mask) = numbers() else {
+        io::write_all(
+            1,
+            b"usage: receive FIELD MASK (bytes of a frame's field, 3 to 512; mask of the check byte, 240 or 248)\n",
+        );
+        return;
+    };
+    let mut out = room();
+    match Reassembler::with_crc_mask(mask_of(mask)) {
+        Fresh::Refused(n) => {
+            let size = put_refusal(&mut out, 0, n);
+            print(&out, size);
+        }
+        Fresh::Ready(receiver) => {
+            let mut chunk = io::buffer();
+            let mut line = input::room();
+            let mut space = store();
+            let mut data = io::large_buffer();
+            lines(
+                receiver,
+                field as usize,
+                &mut chunk,
+                &mut line,
+                &mut space,
+                &mut data,
+                &mut out,
+            );
+        }
+    }
+}
+
+// Answers every line.
+fn lines(
+    receiver: Reassembler,
+    field: usize,
+    chunk: &mut [u8],
+    line: &mut [u8],
+    space: &mut [u8],
+    data: &mut [u8],
+    out: &mut [u8],
+)
+    requires { ⌜ (length (now chunk) < 2 ^ 60) × (length (now line) < 2 ^ 60) × (length (now «data») < 2 ^ 50) ⌝ }
+{
+    let mut stand = input::start();
+    let mut state = receiver;
+    let mut turns = u64::MAX;
+    while 0 < turns {
+        stand = next(stand, chunk, line);
+        if stand.ended && stand.len == 0 {
+            return;
+        }
+        let said = answer(state, space, line, stand, field, data, out);
+        state = said.receiver;
+        print(out, said.size);
+        turns -= 1;
+    }
+}
+
+// What is said of the line that was read.
+fn answer(
+    state: Reassembler,
+    space: &mut [u8],
+    line: &[u8],
+    stand: Stand,
+    field: usize,
+    data: &mut [u8],
+    out: &mut [u8],
+) -> Step
+    requires { ⌜ length (now «data») < 2 ^ 50 ⌝ }
+{
+    let n = stand.len;
+    if line.len() < n {
+        return Step {
+            size: put_error(out, 0, stand.number, b"too long"),
+            receiver: state,
+        };
+    }
+    line::said(
+        state,
+        space,
+        without_cr(front(line, n)),
+        stand.number,
+        field,
+        data,
+        out,
+    )
+}

@@ -1,0 +1,61 @@
+// Reads lines from standard input, `ax25 HEX`, `long HEX`, `generic HEX` or `text TEXT`, and writes the frames of each.
+mod line;
+
+ghost use Prim.Native.Nat.{_^_, _<_};
+ghost use lib.ListN.{length};
+use input::Arguments;
+use input::Stand;
+use input::mask_of;
+use input::next;
+use input::numbers;
+use input::print;
+use input::room;
+use texts::part::front;
+use texts::part::without_cr;
+use texts::say::put_error;
+
+fn main() {
+    let Arguments::Two(field, mask) = numbers() else {
+        io::write_all(
+            1,
+            b"usage: send FIELD MASK (bytes of a frame's field, 3 to 512; mask of the check byte, 240 or 248)\n",
+        );
+        return;
+    };
+    let mut chunk = io::buffer();
+    let mut line = room();
+    let mut out = io::large_buffer();
+    lines(
+        field as usize,
+        mask_of(mask),
+        &mut chunk,
+        &mut line,
+        &mut out,
+    );
+}
+
+// Answers every line.
+fn lines(field: usize, mask: u8, chunk: &mut [u8], line: &mut [u8], out: &mut [u8])
+    requires { ⌜ (length (now chunk) < 2 ^ 60) × (length (now line) < 2 ^ 60) ⌝ }
+{
+    let mut stand = input::start();
+    let mut turns = u64::MAX;
+    while 0 < turns {
+        stand = next(stand, chunk, line);
+        if stand.ended && stand.len == 0 {
+            return;
+        }
+        let n = answer(line, stand, field, mask, out);
+        print(out, n);
+        turns -= 1;
+    }
+}
+
+// What is said of the line that was read.
+fn answer(line: &[u8], stand: Stand, field: usize, mask: u8, out: &mut [u8]) -> usize {
+    let n = stand.len;
+    if line.len() < n {
+        return put_error(out, 0, stand.number, b"too long");
+    }
+    line::said(without_cr(front(line, n)), stand.number, field, mask, out)
+}

@@ -1,0 +1,5 @@
+pub mod HexLaws
+pub mod NumberLaws
+pub mod PartLaws
+pub mod SayLaws
+pub mod ShowLaws
