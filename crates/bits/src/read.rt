@@ -289,7 +289,7 @@ fn words(s: &[u8], at: usize, n: usize, out: &mut [u8], to: usize) -> usize
     ensures { λ r. ⌜ r ≤ n ⌝ }
     ensures { λ r. ⌜ unpack (now (out .exit)) ≡ sets (unpack (now (out .entry))) (to * 8) (take (r * 8) (drop at (unpack (now (s .entry))))) ⌝ }
 {
-    // nine bytes left are 72 bits, and those reach into nine bytes
+    // eight bytes from a position on lie in nine
     let most = least(n, out.len() - to);
     let mut i = 0;
     while 9 <= most - i {
