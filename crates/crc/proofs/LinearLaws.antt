@@ -7,7 +7,7 @@ use native.Mathlib.Nat.{le-of-suc-le-suc, not-suc-le-zero, zero-add, suc-add, ad
 use native.Mathlib.Numerals.{add-one}
 use native.Mathlib.Omega.{arith}
 use lib.Arith.{bin-ind}
-use lib.Bits.{bitXor, xor-zero-l, xor-zero-r, xor-comm, xor-self, xor-lt, xor-block, xor-shifted, xor-shr, xor-mod}
+use lib.Bits.{bitXor, xor-comm, xor-self, xor-lt, xor-block, xor-shifted, xor-shr, xor-mod}
 use lib.ListN.{length, getD, take, drop}
 use lib.Pow.{pow-mono}
 use lib.Seq.{drop-cons, take-add, take-suc}

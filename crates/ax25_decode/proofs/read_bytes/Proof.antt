@@ -20,7 +20,7 @@ same-length c = search needs
 
 returns : tie.Need-returns
 returns c =
-    let a = c .before .before .before .before .before .args in
+    let a = c .before .before .before .before .before .before .args in
     let s = now (a .s) in
     let b = drop (a .at) (unpack s) in
     wrote-as (bytes-in ((length s * 8 - a .at) / 8) b (omega (arith, length-drop (a .at) (unpack s), length-unpack s))) (c .before .before .bytes .ensures)

@@ -7,7 +7,6 @@ use denote.Ref.{now}
 use Rattle.crc.proofs.LinearLaws.{eight, fours}
 use Rattle.crc.proofs.crc_eight.Statement.{statement}
 use Rattle.crc.proofs.crc_eight.Tie as tie
-use Rattle.crc.proofs.crc_eight.Reads as reads
 
 add-crc-pair : tie.Need-add-crc-pair
 add-crc-pair c = search needs

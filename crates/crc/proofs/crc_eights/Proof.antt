@@ -1,7 +1,7 @@
 -- `crc::crc_eights` meets its contract.
 -- Assumes nothing.
 use mathlib.Core.Path.{_≡_, refl, sym}
-use Prim.Native.Nat.{_+_, _-_, _*_, _/_, _%_, _≤_}
+use Prim.Native.Nat.{_-_, _*_, _/_, _%_, _≤_}
 use native.Mathlib.Omega.{arith}
 use borrow.Author.Needs.{needs}
 use lib.ListN.{length, take}
@@ -12,7 +12,6 @@ use Rattle.crc.specs.Rows.{rows, rowsFrom, fourOn, tops}
 use Rattle.crc.proofs.LinearLaws.{from-more}
 use Rattle.crc.proofs.crc_eights.Statement.{statement}
 use Rattle.crc.proofs.crc_eights.Tie as tie
-use Rattle.crc.proofs.crc_eights.Reads as reads
 
 abbrev Inv-loop : tie.InvT-loop
 Inv-loop «data» table c₀ i₀ c i = (i ≤ length «data») × (i % 8 ≡ 0) × (c ≡ crcFrom start (take i «data»))

@@ -7,7 +7,6 @@ use borrow.Author.Needs.{needs}
 use Rattle.crc.specs.Rows.{pairOf}
 use Rattle.crc.proofs.crc_first.Statement.{statement}
 use Rattle.crc.proofs.crc_first.Tie as tie
-use Rattle.crc.proofs.crc_first.Reads as reads
 
 shared-slice-read-wide : tie.Need-shared-slice-read-wide
 shared-slice-read-wide c = search needs

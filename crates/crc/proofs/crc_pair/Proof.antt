@@ -7,7 +7,6 @@ use borrow.Author.Needs.{needs}
 use Rattle.crc.specs.Rows.{pairOf}
 use Rattle.crc.proofs.crc_pair.Statement.{statement}
 use Rattle.crc.proofs.crc_pair.Tie as tie
-use Rattle.crc.proofs.crc_pair.Reads as reads
 
 add-entry : tie.Need-add-entry
 add-entry c = search needs

@@ -9,9 +9,6 @@ use Rattle.laws.specs.Bits.{unpack}
 use Rattle.bits.proofs.WordLaws.{part-of}
 use Rattle.bits.proofs.read.block.Statement.{statement}
 use Rattle.bits.proofs.read.block.Tie as tie
-use Rattle.bits.proofs.read.block.Reads as reads
-use Rattle.bits.proofs.read.block.Lts as lts
-use Rattle.bits.proofs.read.word.Reads as word-reads
 
 word-requires : tie.Need-word-requires
 word-requires c κs = search needs

@@ -12,10 +12,6 @@ use Rattle.laws.proofs.BitLaws.{value-bits}
 use Rattle.bits.proofs.WordLaws.{part-of}
 use Rattle.bits.proofs.read.value_in.Statement.{statement}
 use Rattle.bits.proofs.read.value_in.Tie as tie
-use Rattle.bits.proofs.read.value_in.Reads as reads
-use Rattle.bits.proofs.read.value_in.Lts as lts
-use Rattle.bits.proofs.read.word.Reads as word-reads
-use Rattle.bits.proofs.write.power.Reads as power-reads
 
 word-requires : tie.Need-word-requires
 word-requires c κs = search needs

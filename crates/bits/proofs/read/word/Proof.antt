@@ -1,7 +1,6 @@
 -- `bits::read::word` meets its contract.
 -- Assumes nothing.
 use borrow.Author.Needs.{needs}
-use native.Mathlib.Omega.{arith}
 use denote.Ref.{now}
 use Rattle.bits.proofs.WordLaws.{bytes-join}
 use Rattle.bits.proofs.read.word.Statement.{statement}

@@ -7,8 +7,6 @@ use Rattle.crc.proofs.LinearLaws.{nibbles}
 use Rattle.crc.proofs.TableLaws.{row}
 use Rattle.crc.proofs.table.entry.Statement.{statement}
 use Rattle.crc.proofs.table.entry.Tie as tie
-use Rattle.crc.proofs.table.entry.Reads as reads
-use Rattle.crc.proofs.table.entry.Lts as lts
 
 mul-high : tie.Need-mul-high
 mul-high c = search needs
