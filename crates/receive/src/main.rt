@@ -25,7 +25,7 @@ fn store() -> [u8; 5000]
     [0; 5000]
 }
 
-// Room for what is said: a byte takes two digits and at most six characters, and a message has at most 45,762 bytes of data.
+// Room for what is said: a byte takes two digits and at most six characters, and a message has at most 45,764 bytes of data.
 fn room() -> [u8; 400000]
     ensures { λ r. ⌜ 400000 ≡ length r ⌝ }
 {
