@@ -13,8 +13,9 @@ use Rattle.laws.specs.Bits.{odd, pack, unpack}
 use Rattle.laws.specs.Pick.{pick}
 use Rattle.laws.specs.Text.{ascii, starts}
 use Rattle.laws.proofs.ByteLaws.{length-unpack, unpack-pack, unpack-whole, packN-front}
-use Rattle.bits.specs.Text7.{lastOr, text7Bits}
-use Rattle.bits.proofs.Text7Laws.{length-text7, text7-back}
+use Rattle.bits_write.specs.Text7.{lastOr, text7Bits}
+use Rattle.bits_write.proofs.Text7Laws.{length-text7}
+use Rattle.bits.proofs.Text7Laws.{text7-back}
 use Rattle.refusals.specs.Outcome.{answer}
 use Rattle.ax25_token.specs.Clean.{callText}
 use Rattle.ax25_address.specs.Types.{Text, Binary, ThirdParty, Ax25}

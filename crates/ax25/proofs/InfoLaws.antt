@@ -18,8 +18,8 @@ use Rattle.laws.specs.Wrote.{Wrote}
 use Rattle.laws.proofs.Cases.{by-test}
 use Rattle.laws.proofs.ListLaws.{from-place}
 use Rattle.laws.proofs.WroteLaws.{wrote-as}
-use Rattle.bits.specs.Text7.{lastOr, text7Bits}
-use Rattle.bits.proofs.Text7Laws.{text7-whole}
+use Rattle.bits_write.specs.Text7.{lastOr, text7Bits}
+use Rattle.bits_write.proofs.Text7Laws.{text7-whole}
 use Rattle.ax25_address.specs.Classify.{anyHigh, isPosition, isTimestamped, isMessage, isThird, classifyOf}
 use Rattle.ax25_address.specs.Kind.{typeNumber}
 use Rattle.ax25_address.specs.Parse.{Parsed, parseOf, typeOf, isUi}

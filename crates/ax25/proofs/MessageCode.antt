@@ -14,8 +14,8 @@ use Rattle.laws.specs.Pick.{pick}
 use Rattle.laws.specs.Wrote.{Wrote}
 use Rattle.laws.proofs.Cases.{from-some}
 use Rattle.laws.proofs.WroteLaws.{wrote-then}
-use Rattle.bits.specs.Text7.{lastOr}
-use Rattle.bits.proofs.Text7Laws.{last-append}
+use Rattle.bits_write.specs.Text7.{lastOr}
+use Rattle.bits_write.proofs.Text7Laws.{last-append}
 use Rattle.refusals.specs.Outcome.{Outcome, refused, answer}
 use Rattle.ax25_token.specs.declared.encode.Put.{Put}
 use Rattle.ax25_token.specs.declared.encode.Put.the-variants.{Next, Bad}

@@ -14,8 +14,8 @@ use Rattle.laws.specs.Pick.{pick}
 use Rattle.laws.proofs.BitLaws.{length-bits}
 use Rattle.laws.proofs.ByteLaws.{length-pack, length-unpack}
 use Rattle.laws.proofs.Cases.{by-test, from-some}
-use Rattle.bits.specs.Text7.{lastOr, text7Bits}
-use Rattle.bits.proofs.Text7Laws.{length-text7}
+use Rattle.bits_write.specs.Text7.{lastOr, text7Bits}
+use Rattle.bits_write.proofs.Text7Laws.{length-text7}
 use Rattle.refusals.specs.Outcome.{Outcome, refused, answer}
 use Rattle.ax25_token.specs.Token.{tokenBits}
 use Rattle.ax25_token.proofs.Sizes.{token-size}

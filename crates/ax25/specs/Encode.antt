@@ -8,7 +8,7 @@ use lib.ListN.{length, drop}
 use lib.Dec.{ltb, eqb}
 use Rattle.laws.specs.Bits.{bitsOf, pack, unpack}
 use Rattle.laws.specs.Pick.{pick, _>>=_}
-use Rattle.bits.specs.Text7.{lastOr, text7Bits}
+use Rattle.bits_write.specs.Text7.{lastOr, text7Bits}
 use Rattle.refusals.specs.Outcome.{Outcome, refused, answer}
 use Rattle.ax25_token.specs.Token.{tokenBits}
 use Rattle.ax25_address.specs.Parse.{Parsed, parseOf, isUi, isAp, typeOf, aliasOf}

@@ -9,7 +9,7 @@ ghost use lib.Dec.{eqb};
 ghost use Rattle.laws.specs.Bits.{bitsOf, unpack};
 ghost use Rattle.laws.specs.Pick.{pick};
 ghost use Rattle.laws.specs.Wrote.{Wrote};
-ghost use Rattle.bits.specs.Text7.{lastOr};
+ghost use Rattle.bits_write.specs.Text7.{lastOr};
 ghost use Rattle.ax25_token.specs.Put.{casedOf, Puts};
 ghost use Rattle.ax25_token.specs.Token.{tokenBits};
 ghost use Rattle.ax25_address.specs.Address.{addrCall, heardIn};
@@ -33,11 +33,11 @@ use ax25_body::body::aprs_encode;
 use ax25_body::third::third_encode;
 use ax25_token::encode::Put;
 use ax25_token::encode::put_call;
-use bits::write::bit;
-use bits::write::byte;
-use bits::write::push;
-use bits::write::push_bytes;
-use bits::write::push_text7;
+use bits_write::bit;
+use bits_write::byte;
+use bits_write::push;
+use bits_write::push_bytes;
+use bits_write::push_text7;
 use refusals::BAD_CALL;
 
 // The H bits of n digipeaters, of which f starts at the first. The next position.

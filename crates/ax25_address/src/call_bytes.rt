@@ -13,7 +13,7 @@ use ax25_token::Call;
 use ax25_token::encode::cased;
 use ax25_token::encode::hyphen;
 use ax25_token::encode::same;
-use bits::write::byte;
+use bits_write::byte;
 
 // A byte of the letters of a field: a capital, or a blank behind the last, shifted.
 fn letter_byte(b: &[u8], i: usize, l: usize) -> u8

@@ -16,7 +16,7 @@ use Rattle.laws.specs.Text.{filled}
 use Rattle.laws.proofs.BitLaws.{length-bits, value-bits}
 use Rattle.laws.proofs.TrimLaws.{length-filled}
 use Rattle.bits.specs.Val.{valOf}
-use Rattle.bits.proofs.WriteLaws.{top-bits}
+use Rattle.bits_write.proofs.WriteLaws.{top-bits}
 use Rattle.refusals.specs.Outcome.{answer}
 use Rattle.ax25_token.specs.Clean.{CleanCall, callText}
 use Rattle.ax25_token.proofs.TokenBack.{token-back}

@@ -15,9 +15,9 @@ use Rattle.laws.specs.Pick.{pick}
 use Rattle.laws.proofs.BitLaws.{value-bits}
 use Rattle.laws.proofs.Cases.{by-eq, by-le}
 use Rattle.bits.specs.Val.{valOf}
-use Rattle.bits.specs.Write.{topBits}
+use Rattle.bits_write.specs.Write.{topBits}
 use Rattle.bits.proofs.ValLaws.{val-lt}
-use Rattle.bits.proofs.WriteLaws.{top-bits}
+use Rattle.bits_write.proofs.WriteLaws.{top-bits}
 use Rattle.refusals.specs.Outcome.{answer}
 use Rattle.ax25_aprs.specs.LatLon.{sideBits, tables, tableCode, tableBits, latBits, lonBits, placeBits, latlonBits, dotted, fieldOf, side, tableEnd, tableText, latText, lonText, readLatlon}
 use Rattle.ax25_aprs.specs.Plain.{DigitsOf, Place, placeBytes, PlainPlace}

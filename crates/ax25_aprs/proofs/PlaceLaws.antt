@@ -17,7 +17,7 @@ use Rattle.laws.specs.Pick.{pick, _>>=_}
 use Rattle.laws.proofs.Cases.{by-test}
 use Rattle.laws.proofs.DigitLaws.{length-digits}
 use Rattle.bits.specs.Val.{valOf}
-use Rattle.bits.specs.Write.{topBits}
+use Rattle.bits_write.specs.Write.{topBits}
 use Rattle.refusals.specs.Outcome.{refused, answer}
 use Rattle.ax25_aprs.specs.Coded.{_then_, orRefused}
 use Rattle.ax25_aprs.specs.Text.{textBits, padded, readText}

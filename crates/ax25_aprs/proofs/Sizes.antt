@@ -17,8 +17,8 @@ use Rattle.laws.proofs.Cases.{by-test, by-eq, and-right}
 use Rattle.laws.proofs.TextLaws.{starts-eq}
 use Rattle.laws.proofs.TrimLaws.{trim-le}
 use Rattle.bits.specs.Val.{valOf}
-use Rattle.bits.specs.Write.{topBits}
-use Rattle.bits.proofs.WriteLaws.{length-top}
+use Rattle.bits_write.specs.Write.{topBits}
+use Rattle.bits_write.proofs.WriteLaws.{length-top}
 use Rattle.refusals.specs.Outcome.{Outcome, refused, answer}
 use Rattle.ax25_token.specs.Token.{tokenBits}
 use Rattle.ax25_token.proofs.Sizes.{token-size-text}

@@ -16,9 +16,9 @@ use Rattle.laws.specs.Text.{starts}
 use Rattle.laws.proofs.BitLaws.{length-bits, value-bits}
 use Rattle.laws.proofs.Cases.{by-test, by-eq, by-le}
 use Rattle.bits.specs.Val.{valOf}
-use Rattle.bits.specs.Write.{topBits}
+use Rattle.bits_write.specs.Write.{topBits}
 use Rattle.bits.proofs.ValLaws.{val-lt}
-use Rattle.bits.proofs.WriteLaws.{top-bits}
+use Rattle.bits_write.proofs.WriteLaws.{top-bits}
 use Rattle.ax25_aprs.specs.Words.{words, word, wordAt}
 use Rattle.ax25_aprs.specs.Text.{before, joined, altitudeBits, altitudeAt, frontBits, frontSize, textBits, altitudeText, codeText, codeSpan, readText}
 use Rattle.ax25_aprs.specs.Plain.{Printable, DigitsOf, Altitudes}

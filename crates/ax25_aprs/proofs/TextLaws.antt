@@ -20,7 +20,7 @@ use Rattle.laws.proofs.Cases.{by-test, by-le, by-eq}
 use Rattle.laws.proofs.DigitLaws.{digits-head, digits-tail, length-digits}
 use Rattle.laws.proofs.TrimLaws.{between-yes, between-above, trim-solid}
 use Rattle.bits.specs.Val.{valOf}
-use Rattle.bits.specs.Write.{topBits}
+use Rattle.bits_write.specs.Write.{topBits}
 use Rattle.bits.proofs.ValLaws.{val-lt, digits-val}
 use Rattle.ax25_address.specs.Address.{blank}
 use Rattle.ax25_aprs.specs.Words.{word, wordAt}

@@ -9,7 +9,7 @@ use lib.Dec.{ltb, eqb}
 use Rattle.laws.specs.Pick.{pick, _>>=_}
 use Rattle.laws.specs.Text.{upper, trim, filled}
 use Rattle.bits.specs.Val.{valOf}
-use Rattle.bits.specs.Write.{topBits}
+use Rattle.bits_write.specs.Write.{topBits}
 use Rattle.refusals.specs.Outcome.{Outcome, answer}
 use Rattle.ax25_token.specs.Token.{tokenBits, readToken}
 use Rattle.ax25_address.specs.Address.{white}

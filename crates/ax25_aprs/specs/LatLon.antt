@@ -10,7 +10,7 @@ use Rattle.laws.specs.Bits.{bitsOf, valueOf}
 use Rattle.laws.specs.Pick.{pick}
 use Rattle.laws.specs.Text.{ascii}
 use Rattle.bits.specs.Val.{valOf}
-use Rattle.bits.specs.Write.{topBits}
+use Rattle.bits_write.specs.Write.{topBits}
 use Rattle.refusals.specs.Outcome.{Outcome, refused, answer}
 use Rattle.ax25_aprs.specs.Coded.{_then_, orRefused}
 use Rattle.ax25_aprs.specs.Text.{textBits, padded, readText}

@@ -11,7 +11,7 @@ use Rattle.laws.specs.Digits.{digits}
 use Rattle.laws.specs.Pick.{pick}
 use Rattle.laws.specs.Text.{isDigit, trim}
 use Rattle.bits.specs.Val.{valOf}
-use Rattle.bits.specs.Write.{topBits}
+use Rattle.bits_write.specs.Write.{topBits}
 use Rattle.ax25_address.specs.Address.{blank}
 use Rattle.ax25_aprs.specs.Words.{word, wordAt}
 

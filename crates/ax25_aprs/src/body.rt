@@ -18,7 +18,7 @@ pub fn timestamped_encode(s: &[u8], out: &mut [u8], at: usize) -> Part
     if s.len() < 7 {
         return Part::Refused(refusals::SHORT);
     }
-    let p = bits::write::push_bfi(out, at, bits::vb_val(&s[0..6]), 20);
+    let p = bits_write::push_bfi(out, at, bits::vb_val(&s[0..6]), 20);
     latlon::latlon_encode(&s[7..], out, p)
 }
 
@@ -30,8 +30,8 @@ pub fn timestamped_decode(s: &[u8], at: usize, out: &mut [u8], to: usize) -> Got
     if bits::read::remaining(s, at) < 20 {
         return Got::Nothing;
     }
-    let p = bits::write::byte(out, to, b'@');
+    let p = bits_write::byte(out, to, b'@');
     let q = number::put_padded(out, p, 6, field::value(s, at, 20));
-    let behind = bits::write::byte(out, q, b'h');
+    let behind = bits_write::byte(out, q, b'h');
     latlon::latlon_decode(s, at + 20, out, behind)
 }

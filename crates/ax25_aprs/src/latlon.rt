@@ -43,10 +43,10 @@ fn put_side(out: &mut [u8], at: usize, c: u8, y: u8, n: u8) -> usize
     ensures { λ r. ⌜ Wrote (unpack (now (out .entry))) at (sideBits y n c) (unpack (now (out .exit))) r ⌝ }
 {
     if c == y {
-        return bits::write::bit(out, at, true);
+        return bits_write::bit(out, at, true);
     }
     if c == n {
-        return bits::write::bit(out, at, false);
+        return bits_write::bit(out, at, false);
     }
     at
 }
@@ -74,11 +74,11 @@ fn put_table(out: &mut [u8], at: usize, c: u8) -> usize
 {
     let code = table_code(c);
     if code < 8 {
-        let behind = bits::write::bit(out, at, true);
-        return bits::write::push(out, behind, code, 3);
+        let behind = bits_write::bit(out, at, true);
+        return bits_write::push(out, behind, code, 3);
     }
-    let behind = bits::write::bit(out, at, false);
-    bits::write::push_bfi(out, behind, field::wide(c), 7)
+    let behind = bits_write::bit(out, at, false);
+    bits_write::push_bfi(out, behind, field::wide(c), 7)
 }
 
 // Latitude, N or S, table. The next position.
@@ -86,7 +86,7 @@ fn put_lat(s: &[u8], out: &mut [u8], at: usize) -> usize
     requires { ⌜ (19 ≤ length (now s)) × (at < 2 ^ 61) ⌝ }
     ensures { λ r. ⌜ Wrote (unpack (now (out .entry))) at (latBits (now (s .entry))) (unpack (now (out .exit))) r ⌝ }
 {
-    let p = bits::write::push_bfi(out, at, lat(s), 20);
+    let p = bits_write::push_bfi(out, at, lat(s), 20);
     let q = put_side(out, p, s[7], b'N', b'S');
     put_table(out, q, s[8])
 }
@@ -96,9 +96,9 @@ fn put_lon(s: &[u8], out: &mut [u8], at: usize) -> usize
     requires { ⌜ (19 ≤ length (now s)) × (at < 2 ^ 61) ⌝ }
     ensures { λ r. ⌜ Wrote (unpack (now (out .entry))) at (lonBits (now (s .entry))) (unpack (now (out .exit))) r ⌝ }
 {
-    let p = bits::write::push_bfi(out, at, lon(s), 21);
+    let p = bits_write::push_bfi(out, at, lon(s), 21);
     let q = put_side(out, p, s[17], b'W', b'E');
-    bits::write::push_bfi(out, q, field::wide(s[18]), 7)
+    bits_write::push_bfi(out, q, field::wide(s[18]), 7)
 }
 
 // A position from a bit position on; on a refusal nothing is said of the output.
@@ -120,7 +120,7 @@ fn put_around(out: &mut [u8], to: usize, k: usize, m: usize, v: u64) -> usize
     ensures { λ r. ⌜ Wrote (now (out .entry)) to (digits k (v / 10 ^ m) ++ 46 ∷ digits m v) (now (out .exit)) r ⌝ }
 {
     let p = number::put_digits(out, to, k, v / number::ten(m));
-    let q = bits::write::byte(out, p, b'.');
+    let q = bits_write::byte(out, p, b'.');
     number::put_digits(out, q, m, v)
 }
 
@@ -141,9 +141,9 @@ fn put_letter(s: &[u8], at: usize, y: u8, n: u8, out: &mut [u8], to: usize) -> u
     ensures { λ r. ⌜ Wrote (now (out .entry)) to (side y n (getD (unpack (now (s .entry))) at false) ∷ []) (now (out .exit)) r ⌝ }
 {
     if field::bit(s, at) {
-        return bits::write::byte(out, to, y);
+        return bits_write::byte(out, to, y);
     }
-    bits::write::byte(out, to, n)
+    bits_write::byte(out, to, n)
 }
 
 // Where the longitude starts, counted from the position's first bit.
@@ -184,7 +184,7 @@ fn read_lat(s: &[u8], at: usize, out: &mut [u8], to: usize) -> usize
 {
     let p = put_dotted(out, to, 4, 6, field::value(s, at, 20));
     let q = put_letter(s, at + 20, b'N', b'S', out, p);
-    bits::write::byte(out, q, table_at(s, at))
+    bits_write::byte(out, q, table_at(s, at))
 }
 
 // The text of longitude, W or E, symbol, which start e bits behind the position's first bit. The next place.
@@ -194,7 +194,7 @@ fn read_lon(s: &[u8], at: usize, e: usize, out: &mut [u8], to: usize) -> usize
 {
     let p = put_dotted(out, to, 5, 7, field::value(s, at + e, 21));
     let q = put_letter(s, at + (e + 21), b'W', b'E', out, p);
-    bits::write::byte(out, q, field::narrow(field::value(s, at + (e + 22), 7)))
+    bits_write::byte(out, q, field::narrow(field::value(s, at + (e + 22), 7)))
 }
 
 // The position that stands from a bit on, written from a place of the output on; where there is none, nothing is said of the output.

@@ -27,7 +27,7 @@ pub fn put_digits(out: &mut [u8], at: usize, n: usize, v: u64) -> usize
     let mut next = at;
     let mut left = n;
     while 0 < left {
-        next = bits::write::byte(out, next, digit(v, left - 1));
+        next = bits_write::byte(out, next, digit(v, left - 1));
         left -= 1;
     }
     next

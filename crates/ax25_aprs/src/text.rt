@@ -7,7 +7,7 @@ use crate::part::Part;
 use crate::words;
 ghost use mathlib.Core.Path.{_≡_};
 ghost use mathlib.Core.Bool.{_&&_};
-ghost use Prim.Native.Nat.{_+_, _-_, _*_, _^_, _≤_, _<_, min};
+ghost use Prim.Native.Nat.{_+_, _-_, _*_, _^_, _≤_, _<_};
 ghost use lib.ListN.{length, take, drop};
 ghost use lib.Dec.{eqb, leb};
 ghost use Rattle.laws.specs.Bits.{valueOf, unpack};
@@ -43,8 +43,8 @@ fn with_altitude(s: &[u8], out: &mut [u8], at: usize) -> Step
     let Number::Is(a) = height::read(&s[5..9]) else {
         return Step::Stuck;
     };
-    let next = bits::write::push(out, at, 1, 7);
-    Step::Took(9, bits::write::push_bfi(out, next, a, 14))
+    let next = bits_write::push(out, at, 1, 7);
+    Step::Took(9, bits_write::push_bfi(out, next, a, 14))
 }
 
 // What stands at the front: an altitude, a word or a byte.
@@ -54,12 +54,12 @@ fn front(s: &[u8], position: bool, out: &mut [u8], at: usize) -> Step
 {
     let n = words::word_at(s);
     if n == 0 {
-        return Step::Took(1, bits::write::push_bfi(out, at, field::wide(s[0]), 7));
+        return Step::Took(1, bits_write::push_bfi(out, at, field::wide(s[0]), 7));
     }
     if is_altitude(position, n, s.len()) {
         return with_altitude(s, out, at);
     }
-    Step::Took(words::size_of(n), bits::write::push(out, at, n as u64, 7))
+    Step::Took(words::size_of(n), bits_write::push(out, at, n as u64, 7))
 }
 
 // A text from a position on; where an altitude is no number nothing is said of the output.
@@ -92,13 +92,6 @@ fn span(position: bool, code: u64) -> usize
     14
 }
 
-// The smaller of two.
-pub fn least(a: usize, b: usize) -> usize
-    ensures { λ r. ⌜ r ≡ min a b ⌝ }
-{
-    if a < b { a } else { b }
-}
-
 // In a position type the number behind the first word. The next place.
 fn put_altitude(s: &[u8], at: usize, position: bool, out: &mut [u8], to: usize) -> usize
     requires { ⌜ (length (now s) < 2 ^ 56) × (to < 2 ^ 61) ⌝ }
@@ -107,7 +100,7 @@ fn put_altitude(s: &[u8], at: usize, position: bool, out: &mut [u8], to: usize) 
     if !position {
         return to;
     }
-    let n = least(14, bits::read::remaining(s, at));
+    let n = bits_write::least(14, bits::read::remaining(s, at));
     number::put_padded(out, to, 4, field::value(s, at, n))
 }
 
@@ -124,7 +117,7 @@ fn put_code(s: &[u8], at: usize, position: bool, code: u64, out: &mut [u8], to: 
         }
         2..=9 => words::put_word(out, to, code as usize),
         10..=31 => to,
-        32..=127 => bits::write::byte(out, to, code as u8),
+        32..=127 => bits_write::byte(out, to, code as u8),
         _ => to,
     }
 }

@@ -70,7 +70,7 @@ pub fn put_word(out: &mut [u8], at: usize, n: usize) -> usize
     let mut next = at;
     let mut j = 0;
     while j < size {
-        next = bits::write::byte(out, next, letter(n, j));
+        next = bits_write::byte(out, next, letter(n, j));
         j += 1;
     }
     next

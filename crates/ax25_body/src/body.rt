@@ -2,13 +2,13 @@
 use ax25_address::classify::AprsType;
 use ax25_address::trim::trimmed;
 use ax25_aprs::part::Part;
-use ax25_aprs::text::least;
 use ax25_aprs::text::text_encode;
 use ax25_token::Call;
 use ax25_token::Token;
 use ax25_token::encode::Put;
 use ax25_token::encode::put_call;
 use bits::read::Got;
+use bits_write::least;
 ghost use mathlib.Core.Path.{_≡_};
 ghost use Prim.Native.Nat.{_+_, _^_, _≤_, _<_};
 ghost use lib.ListN.{length, drop};
@@ -65,7 +65,7 @@ pub(crate) fn put_text(c: Call, out: &mut [u8], to: usize) -> usize
 {
     let bytes = c.bytes;
     let n = c.len;
-    bits::write::copy(out, to, &bytes[0..n])
+    bits_write::copy(out, to, &bytes[0..n])
 }
 
 // `call:<9`: the text of a call with blanks up to nine. The next place.
@@ -80,7 +80,7 @@ fn put_filled(c: Call, out: &mut [u8], to: usize) -> usize
         return p;
     }
     let blanks = [32u8; 9];
-    bits::write::copy(out, p, &blanks[n..9])
+    bits_write::copy(out, p, &blanks[n..9])
 }
 
 // The message that stands from a bit on, with its type byte; where there is none, nothing is said of the output.
@@ -93,9 +93,9 @@ pub fn message_decode(s: &[u8], at: usize, l: usize, out: &mut [u8], to: usize) 
     let Token::Next(p) = token else {
         return Got::Nothing;
     };
-    let i = bits::write::byte(out, to, b':');
+    let i = bits_write::byte(out, to, b':');
     let j = put_filled(d.call, out, i);
-    let k = bits::write::byte(out, j, b':');
+    let k = bits_write::byte(out, j, b':');
     Got::Next(ax25_aprs::text::text_decode(s, p, false, out, k))
 }
 
@@ -104,7 +104,7 @@ fn position_decode(s: &[u8], at: usize, out: &mut [u8], to: usize) -> Got
     requires { ⌜ (length (now s) < 2 ^ 55) × (at < 2 ^ 59) × (to < 2 ^ 54) ⌝ }
     ensures { λ r. ⌜ Reads (readPosition (drop at (unpack (now (s .entry))))) (now (out .entry)) to (now (out .exit)) r ⌝ }
 {
-    let p = bits::write::byte(out, to, b'!');
+    let p = bits_write::byte(out, to, b'!');
     ax25_aprs::latlon::latlon_decode(s, at, out, p)
 }
 

@@ -3,13 +3,13 @@ use crate::body;
 use ax25_address::classify::AprsType;
 use ax25_address::classify::opens;
 use ax25_aprs::part::Part;
-use ax25_aprs::text::least;
 use ax25_aprs::third::Collected;
 use ax25_aprs::third::collect;
 use ax25_token::Token;
 use ax25_token::encode::Put;
 use bits::read::Got;
 use bits::read::Taken;
+use bits_write::least;
 ghost use mathlib.Core.Path.{_≡_};
 ghost use Prim.Native.Nat.{ℕ, _^_, _≤_, _<_};
 ghost use lib.ListN.{length, drop};
@@ -68,7 +68,7 @@ fn inner_encode(d: &[u8], l: usize, out: &mut [u8], at: usize) -> Part
         return Part::Refused(refusals::SHORT);
     }
     let k = inner_number(d);
-    let p = bits::write::push(out, at, k, 2);
+    let p = bits_write::push(out, at, k, 2);
     if k == 3 {
         return body::aprs_encode(AprsType::Text, d, l, out, p);
     }
@@ -145,7 +145,7 @@ fn call_decode(s: &[u8], at: usize, l: usize, before: &[u8], out: &mut [u8], to:
     let Token::Next(p) = token else {
         return Pass::Nothing;
     };
-    let i = bits::write::copy(out, to, before);
+    let i = bits_write::copy(out, to, before);
     Pass::Next(p, body::put_text(d.call, out, i))
 }
 
@@ -170,7 +170,7 @@ fn inner_decode(s: &[u8], at: usize, l: usize, out: &mut [u8], to: usize) -> Got
     let Taken::Bits(k, p) = bits::read::take(s, at, 2) else {
         return Got::Nothing;
     };
-    let i = bits::write::copy(out, to, b"*:");
+    let i = bits_write::copy(out, to, b"*:");
     body::aprs_decode(inner_type(k), s, p, l, out, i)
 }
 

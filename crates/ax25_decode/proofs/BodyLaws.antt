@@ -1,19 +1,17 @@
 -- The ways through the readers of a frame's body, and of the whole frame.
 -- Assumes nothing.
-use mathlib.Core.Path.{_≡_, refl, sym, ap, subst, _∙_}
+use mathlib.Core.Path.{_≡_, refl, sym, ap, subst}
 use mathlib.Core.Bool.{Bool, false}
 use mathlib.Core.List.{List, [], _∷_, _++_, append-assoc}
 use mathlib.Core.Option.{Option, none, some}
-use Prim.Native.Nat.{ℕ, zero, suc, _+_, _-_, _*_, _/_, _≤_}
+use Prim.Native.Nat.{ℕ, _+_, _-_, _/_, _≤_}
 use native.Mathlib.Omega.{arith}
 use denote.Enum.Declared.{tagOf}
 use types.Run.{OneOf}
-use lib.ListN.{length, take, drop, length-drop}
-use lib.Seq.{drop-drop}
-use Rattle.laws.specs.Bits.{odd, fit, packN, valueOf}
+use lib.ListN.{length, drop, length-drop}
+use Rattle.laws.specs.Bits.{odd, packN}
 use Rattle.laws.specs.Pick.{pick, _>>=_}
 use Rattle.laws.specs.Wrote.{Wrote}
-use Rattle.laws.proofs.ByteLaws.{fit-take}
 use Rattle.laws.proofs.WroteLaws.{wrote-then}
 use Rattle.bits.specs.Text7.{text7Of, text7Next, text7Left}
 use Rattle.bits.specs.declared.read.Got.{Got}
@@ -34,14 +32,6 @@ use Rattle.ax25_decode.specs.declared.Head.the-variants.{Is, Nothing}
 use Rattle.ax25_decode.proofs.HeadLaws.{addresses-size}
 
 -- ---- whole bytes
-
--- one byte more
-pub bytes-suc : (k : ℕ) (b : List Bool) → suc k * 8 ≤ length b → packN (suc k) b ≡ packN k b ++ (valueOf (take 8 (drop (k * 8) b)) ∷ [])
-unfolding packN
-bytes-suc zero b h = ap (λ (x : List Bool). valueOf x ∷ []) (fit-take 8 b (omega (arith, h)))
-bytes-suc (suc k) b h =
-    let e : 8 + k * 8 ≡ suc k * 8 = omega arith in
-    ap (λ (t : List ℕ). valueOf (fit 8 b) ∷ t) (bytes-suc k (drop 8 b) (omega (arith, h, length-drop 8 b)) ∙ ap (λ (d : List Bool). packN k (drop 8 b) ++ (valueOf (take 8 d) ∷ [])) (drop-drop (k * 8) 8 b ∙ ap (λ (n : ℕ). drop n b) e))
 
 pub bytes-in : (i : ℕ) (b : List Bool) → i ≡ length b / 8 → packN i b ≡ bytesIn b
 unfolding bytesIn

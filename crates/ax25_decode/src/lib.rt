@@ -261,8 +261,8 @@ fn put_ui(header: u8, out: &mut [u8], to: usize) -> usize
     ensures { λ r. ⌜ r ≤ to + 2 ⌝ }
 {
     if header / 64 % 2 == 1 {
-        let p = bits::write::byte(out, to, UI_CTRL);
-        return bits::write::byte(out, p, PID_NO_L3);
+        let p = bits_write::byte(out, to, UI_CTRL);
+        return bits_write::byte(out, p, PID_NO_L3);
     }
     to
 }

@@ -19,7 +19,7 @@ use crate::names::fixed_of;
 use crate::names::numbered_of;
 use crate::names::pair_of;
 use crate::names::two_at;
-use bits::write::push;
+use bits_write::push;
 
 // The next position, or a bad call.
 pub enum Put {

@@ -1,8 +1,6 @@
-pub mod BlockLaws
 pub mod ReadLaws
 pub mod ReaderWays
 pub mod TakenLaws
 pub mod Text7Laws
 pub mod ValLaws
 pub mod WordLaws
-pub mod WriteLaws

@@ -1,82 +1,22 @@
--- Text of seven bits a byte: its steps, and that it comes back.
+-- Text of seven bits a byte: what is read without the trailing run, and that what was written comes back.
 -- Assumes nothing.
 use mathlib.Core.Path.{_≡_, refl, ap}
 use mathlib.Core.Bool.{Bool, true, false, not}
-use mathlib.Core.List.{List, [], _∷_, _++_, append-assoc, append-nil}
+use mathlib.Core.List.{List, [], _∷_, _++_, append-assoc}
 use mathlib.Core.Option.{some, none}
 use Prim.Native.Nat.{ℕ, zero, suc, _+_, _-_, _*_, _/_, _%_, _≤_, _<_, suc-le-suc}
 use native.Mathlib.Nat.{mod-eq-of-lt, le-trans, not-suc-le-zero}
 use native.Mathlib.Omega.{arith}
-use lib.ListN.{length, getD, take, drop, replicate, length-append, length-replicate}
-use lib.Seq.{drop-drop, length-take-le, take-at, drop-at, drop-append-seam, take-suc, take-all}
-use Rattle.laws.specs.Bits.{odd, num, bitsOf, valueOf}
-use Rattle.laws.specs.Wrote.{Wrote}
+use lib.ListN.{length, getD, take, drop, replicate, length-append}
+use lib.Seq.{length-take-le, take-at, drop-at, drop-append-seam, take-suc}
+use Rattle.laws.specs.Bits.{num, bitsOf}
 use Rattle.laws.proofs.BitLaws.{length-bits, value-bits}
-use Rattle.laws.proofs.WroteLaws.{wrote-then, wrote-as}
-use Rattle.bits.specs.Text7.{Sevens, sevens, unsevens, lastOr, text7Bits, differ, counted, endOf, text7Of}
-
--- ---- sevens
-
-pub length-sevens : (cs : List ℕ) → length (sevens cs) ≡ length cs * 7
-unfolding sevens
-length-sevens [] = refl
-length-sevens (c ∷ cs) = rw (length-append, length-bits, length-sevens cs) (omega arith)
-
-pub unsevens-sevens : (cs : List ℕ) (b : List Bool) → Sevens cs → unsevens (length cs) (sevens cs ++ b) ≡ cs
-unfolding sevens unsevens
-unsevens-sevens [] b h = refl
-unsevens-sevens (c ∷ cs) b h =
-    rw (append-assoc (bitsOf 7 c) (sevens cs) b, take-at (bitsOf 7 c) (sevens cs ++ b) 7 (length-bits 7 c), drop-at (bitsOf 7 c) (sevens cs ++ b) 7 (length-bits 7 c), value-bits, mod-eq-of-lt (h zero (omega arith)), unsevens-sevens cs b (λ i k. h (suc i) (suc-le-suc k)))
-
-sevens-append : (a b : List ℕ) → sevens (a ++ b) ≡ sevens a ++ sevens b
-unfolding sevens
-sevens-append [] b = refl
-sevens-append (c ∷ a) b = rw (sevens-append a b, append-assoc)
-
-sevens-one : (c : ℕ) → sevens (c ∷ []) ≡ bitsOf 7 c
-unfolding sevens
-sevens-one c = append-nil (bitsOf 7 c)
-
--- one more byte of a text
-pub sevens-take-suc : (s : List ℕ) (i : ℕ) → i < length s → sevens (take (suc i) s) ≡ sevens (take i s) ++ bitsOf 7 (getD s i 0)
-sevens-take-suc s i h = rw (take-suc s i 0 h, sevens-append) (ap (λ (l : List Bool). sevens (take i s) ++ l) (sevens-one (getD s i 0)))
-
--- one more number
-pub unsevens-suc : (k : ℕ) (b : List Bool) → unsevens (suc k) b ≡ unsevens k b ++ (valueOf (take 7 (drop (k * 7) b)) ∷ [])
-unfolding unsevens
-unsevens-suc zero b = refl
-unsevens-suc (suc k) b =
-    let e : suc k * 7 ≡ 7 + k * 7 = omega arith in
-    rw (e, ← drop-drop (k * 7) 7 b) (ap (λ (l : List ℕ). valueOf (take 7 b) ∷ l) (unsevens-suc k (drop 7 b)))
-
-pub length-unsevens : (k : ℕ) (b : List Bool) → length (unsevens k b) ≡ k
-unfolding unsevens
-length-unsevens zero b = refl
-length-unsevens (suc k) b = ap suc (length-unsevens k (drop 7 b))
+use Rattle.bits_write.specs.Text7.{Sevens, sevens, lastOr, text7Bits}
+use Rattle.bits_write.proofs.Text7Laws.{length-sevens, last-append}
+use Rattle.bits.specs.Read.{numbers}
+use Rattle.bits.specs.Text7.{differ, counted, endOf, text7Of}
 
 -- ---- the last bit
-
-pub last-append : (d : Bool) (b s : List Bool) → lastOr d (b ++ s) ≡ lastOr (lastOr d b) s
-unfolding lastOr
-last-append d [] s = refl
-last-append d (x ∷ b) s = last-append x b s
-
-last-bits : (d : Bool) (v : ℕ) → lastOr d (bitsOf 7 v) ≡ odd v
-unfolding bitsOf lastOr
-last-bits d v = ap odd (omega arith)
-
--- the last bit of a text is its last byte's
-pub last-sevens : (d : Bool) (cs : List ℕ) → 0 < length cs → lastOr d (sevens cs) ≡ odd (getD cs (length cs - 1) 0)
-last-sevens d cs h =
-    let i = length cs - 1 in
-    let all : take (suc i) cs ≡ cs = take-all (suc i) cs (omega arith) in
-    let e : sevens cs ≡ sevens (take i cs) ++ bitsOf 7 (getD cs i 0) = rw all at (sevens-take-suc cs i (omega arith)) in
-    rw (e, last-append d (sevens (take i cs)) (bitsOf 7 (getD cs i 0)), last-bits)
-
-pub last-none : (d : Bool) (cs : List ℕ) → length cs ≡ 0 → lastOr d (sevens cs) ≡ d
-unfolding lastOr sevens
-last-none d [] h = refl
-last-none d (c ∷ cs) h = absurd (omega arith)
 
 last-run : (p : Bool) (k : ℕ) → lastOr p (replicate k p) ≡ p
 unfolding lastOr
@@ -92,29 +32,6 @@ last-is : (x : Bool) (b : List Bool) → lastOr x b ≡ getD (x ∷ b) (length b
 unfolding lastOr
 last-is x [] = refl
 last-is x (y ∷ b) = last-is y b
-
--- ---- writing: the sevens, and then the pad
-
-pub length-text7 : (at : ℕ) (last : Bool) (cs : List ℕ) → length (text7Bits at last cs) ≡ length cs * 7 + (8 - (at + length cs * 7) % 8)
-unfolding text7Bits
-length-text7 at last cs = rw (length-append, length-sevens, length-replicate)
-
-text7-parts : (at pos : ℕ) (last : Bool) (cs : List ℕ) → pos ≡ at + length cs * 7
-    → sevens cs ++ replicate (8 - pos % 8) (not (lastOr last (sevens cs))) ≡ text7Bits at last cs
-unfolding text7Bits
-text7-parts at pos last cs e = rw e
-
-pub text7-wrote : (last : Bool) (cs : List ℕ) {b c d : List Bool} {at pos next : ℕ} → pos ≡ at + length cs * 7
-    → Wrote b at (sevens cs) c pos → Wrote c pos (replicate (8 - pos % 8) (not (lastOr last (sevens cs)))) d next
-    → Wrote b at (text7Bits at last cs) d next
-text7-wrote last cs {at = at} {pos = pos} e f g = wrote-as (text7-parts at pos last cs e) (wrote-then f g)
-
--- whole bytes before do not matter
-pub text7-whole : (at : ℕ) (last : Bool) (cs : List ℕ) → text7Bits (8 + at) last cs ≡ text7Bits at last cs
-unfolding text7Bits
-text7-whole at last cs =
-    let e : (8 + at + length cs * 7) % 8 ≡ (at + length cs * 7) % 8 = omega arith in
-    rw e
 
 -- ---- the trailing run
 
@@ -190,7 +107,7 @@ text7-none [] at h = refl
 text7-none (x ∷ b) at h = absurd (omega arith)
 
 pub text7-some : (b : List Bool) (at : ℕ) → 0 < length b
-    → text7Of b at ≡ some (unsevens ((endOf (getD b (length b - 1) false) b - at) / 7) (drop at b))
+    → text7Of b at ≡ some (numbers 7 ((endOf (getD b (length b - 1) false) b - at) / 7) (drop at b))
 unfolding text7Of
 text7-some [] at h = absurd (not-suc-le-zero h)
 text7-some (x ∷ b) at h =
@@ -199,8 +116,14 @@ text7-some (x ∷ b) at h =
 
 -- ---- what was written comes back
 
+numbers-sevens : (cs : List ℕ) (b : List Bool) → Sevens cs → numbers 7 (length cs) (sevens cs ++ b) ≡ cs
+unfolding sevens numbers
+numbers-sevens [] b h = refl
+numbers-sevens (c ∷ cs) b h =
+    rw (append-assoc (bitsOf 7 c) (sevens cs) b, take-at (bitsOf 7 c) (sevens cs ++ b) 7 (length-bits 7 c), drop-at (bitsOf 7 c) (sevens cs ++ b) 7 (length-bits 7 c), value-bits, mod-eq-of-lt (h zero (omega arith)), numbers-sevens cs b (λ i k. h (suc i) (suc-le-suc k)))
+
 text7-run : (p : Bool) (b : List Bool) (k at : ℕ)
-    → text7Of (b ++ replicate (suc k) p) at ≡ some (unsevens ((endOf p b - at) / 7) (drop at (b ++ replicate (suc k) p)))
+    → text7Of (b ++ replicate (suc k) p) at ≡ some (numbers 7 ((endOf p b - at) / 7) (drop at (b ++ replicate (suc k) p)))
 unfolding text7Of
 text7-run p [] k at = rw (last-run p k, end-pad p [] (suc k))
 text7-run p (x ∷ b) k at = rw (last-pad x p b k, end-pad p (x ∷ b) (suc k))
@@ -215,4 +138,4 @@ text7-back b cs h =
     let pads : 8 - (length b + length cs * 7) % 8 ≡ suc k = omega arith in
     let all : endOf p w ≡ length w = rw (last-append false b (sevens cs)) at (end-last false w) in
     let many : (length w - length b) / 7 ≡ length cs = omega (arith, length-append b (sevens cs), length-sevens cs) in
-    rw (pads, ← append-assoc b (sevens cs) (replicate (suc k) p), text7-run p w k (length b), all, many, append-assoc b (sevens cs) (replicate (suc k) p), drop-append-seam, unsevens-sevens cs (replicate (suc k) p) h)
+    rw (pads, ← append-assoc b (sevens cs) (replicate (suc k) p), text7-run p w k (length b), all, many, append-assoc b (sevens cs) (replicate (suc k) p), drop-append-seam, numbers-sevens cs (replicate (suc k) p) h)

@@ -1,48 +1,21 @@
--- Bits of eight bytes as a word: a part of them, and numbers of seven bits in blocks of eight.
+-- Bits of eight bytes as a word: a part of them, numbers of so many bits each, whole bytes.
 -- Assumes nothing.
 use mathlib.Core.Path.{_≡_, refl, sym, ap, _∙_}
 use mathlib.Core.Bool.{Bool}
 use mathlib.Core.List.{List, [], _∷_, _++_}
 use Prim.Native.Nat.{ℕ, zero, suc, _+_, _-_, _*_, _/_, _%_, _^_, _≤_, _<_}
-use native.Mathlib.Nat.{zero-add, add-zero, suc-add, div-one, mod-lt, mul-mod-left}
+use native.Mathlib.Nat.{zero-add, zero-mul, suc-add, suc-mul, add-comm, div-one}
 use native.Mathlib.Numerals.{add-one}
 use native.Mathlib.Omega.{arith}
-use lib.ListN.{length, getD, take, drop, length-drop}
-use lib.Arith.{digits-lt}
-use lib.Pow.{mod-pow-add, pow-add, pow-pos, shl-shr, shr-lt}
-use lib.Seq.{drop-cons, drop-drop, take-add, take-at, drop-at, take-nil, take-take, length-take-le, sets}
+use lib.ListN.{length, take, drop, length-drop}
+use lib.Seq.{drop-drop, take-add, take-at, drop-at, take-nil, take-take, length-take-le, sets}
 use Rattle.laws.specs.Bits.{Bytes, bitsOf, valueOf, fit, packN, unpack}
 use Rattle.laws.specs.Wrote.{Wrote}
-use Rattle.laws.proofs.BitLaws.{length-bits, value-bits, bits-append, bits-join, bits-mod}
-use Rattle.laws.proofs.ByteLaws.{unpack-drop, fit-take, length-packN, unpack-packN, bytes-packN, bytes-stored}
+use Rattle.laws.proofs.BitLaws.{length-bits, value-bits, bits-append}
+use Rattle.laws.proofs.ByteLaws.{fit-take, length-packN, unpack-packN, bytes-packN, bytes-stored}
 use Rattle.laws.proofs.ListLaws.{sets-out}
-use Rattle.bits.specs.Text7.{unsevens}
-
--- ---- bytes side by side
-
--- one byte
-pub byte-at : (s : List ℕ) (i : ℕ) → i < length s → bitsOf 8 (getD s i 0) ≡ take 8 (drop (i * 8) (unpack s))
-unfolding unpack
-byte-at s i h = rw (← unpack-drop i s, drop-cons s i 0 h) (sym (take-at (bitsOf 8 (getD s i 0)) (unpack (drop (suc i) s)) 8 (length-bits 8 (getD s i 0))))
-
--- m bytes in front of n
-pub bytes-join : (s : List ℕ) (i m n a : ℕ) {b : ℕ} → bitsOf (m * 8) a ≡ take (m * 8) (drop (i * 8) (unpack s))
-    → bitsOf (n * 8) b ≡ take (n * 8) (drop ((i + m) * 8) (unpack s)) → b < 2 ^ (n * 8)
-    → bitsOf (m * 8 + n * 8) (a * 2 ^ (n * 8) + b) ≡ take (m * 8 + n * 8) (drop (i * 8) (unpack s))
-bytes-join s i m n a e f h =
-    let p : (i + m) * 8 ≡ i * 8 + m * 8 = omega arith in
-    rw (bits-join (m * 8) (n * 8) a h, e, f, p, ← drop-drop (m * 8) (i * 8) (unpack s), take-add (m * 8) (n * 8) (drop (i * 8) (unpack s)))
-
--- what is shifted past m + n bits is lost
-shifted : (m n a : ℕ) → a * 2 ^ n % 2 ^ (m + n) ≡ a % 2 ^ m * 2 ^ n
-shifted m n a = rw (mod-pow-add (a * 2 ^ n) m n, shl-shr a n, mul-mod-left a (2 ^ n)) (add-zero (a % 2 ^ m * 2 ^ n))
-
--- m bits in front of n by a shift
-pub shift-lt : (m n a : ℕ) {b : ℕ} → b < 2 ^ n → a * 2 ^ n % 2 ^ (m + n) + b < 2 ^ (m + n)
-shift-lt m n a h = rw (shifted m n a, pow-add 2 m n) (digits-lt (mod-lt a (pow-pos m)) h)
-
-pub shift-join : (m n a : ℕ) {b : ℕ} → b < 2 ^ n → bitsOf (m + n) (a * 2 ^ n % 2 ^ (m + n) + b) ≡ bitsOf m a ++ bitsOf n b
-shift-join m n a h = rw (shifted m n a, bits-join m n (a % 2 ^ m) h, bits-mod m a)
+use Rattle.bits_write.proofs.WordLaws.{shift-lt, shift-join, first-lt}
+use Rattle.bits.specs.Read.{numbers}
 
 -- ---- a part of a word
 
@@ -75,11 +48,6 @@ part-of b at n w h e =
 
 -- ---- a word and the byte behind it
 
-pub first-lt : (x : ℕ) {o : ℕ} → o ≤ 8 → x < 256 → x / 2 ^ (8 - o) < 2 ^ o
-first-lt x {o} h k =
-    let e : o + (8 - o) ≡ 8 = omega arith in
-    shr-lt o (8 - o) (rw e k)
-
 module _ (o w v x : ℕ) (h : o ≤ 8) (k : o ≤ w) (lt : x < 256) where
   pub behind-lt : v * 2 ^ o % 2 ^ w + x / 2 ^ (8 - o) < 2 ^ w
   behind-lt =
@@ -98,21 +66,46 @@ module _ (o w v x : ℕ) (h : o ≤ 8) (k : o ≤ w) (lt : x < 256) where
       let parts = rw (e, drop-drop (w - o) o l, all) at (take-add (w - o) o (drop o l)) in
       rw (joined, front, back, parts)
 
+-- ---- numbers of w bits
+
+pub length-numbers : (w k : ℕ) (b : List Bool) → length (numbers w k b) ≡ k
+unfolding numbers
+length-numbers w zero b = refl
+length-numbers w (suc k) b = ap suc (length-numbers w k (drop w b))
+
+-- w times one more, with w in front
+suc-times : (w k : ℕ) → suc k * w ≡ w + k * w
+suc-times w k = suc-mul k w ∙ add-comm (k * w) w
+
+pub numbers-add : (w m n : ℕ) (b : List Bool) → numbers w (m + n) b ≡ numbers w m b ++ numbers w n (drop (m * w) b)
+unfolding numbers
+numbers-add w zero n b = rw (zero-add, zero-mul)
+numbers-add w (suc m) n b =
+    rw (suc-add, suc-times w m, ← drop-drop (m * w) w b) (ap (λ (l : List ℕ). valueOf (take w b) ∷ l) (numbers-add w m n (drop w b)))
+
+-- one more number
+pub numbers-suc : (w k : ℕ) (b : List Bool) → numbers w (suc k) b ≡ numbers w k b ++ (valueOf (take w (drop (k * w) b)) ∷ [])
+unfolding numbers
+numbers-suc w k b = ap (λ (n : ℕ). numbers w n b) (sym (add-one k)) ∙ numbers-add w k 1 b
+
+-- only k times w bits count
+pub numbers-front : (w k : ℕ) (b : List Bool) → k * w ≤ length b → numbers w k (take (k * w) b) ≡ numbers w k b
+unfolding numbers
+numbers-front w zero b h = refl
+numbers-front w (suc k) b h =
+    let e = suc-times w k in
+    let l : length (take w b) ≡ w = length-take-le w b (omega arith) in
+    rw (e, take-add w (k * w) b, take-at (take w b) (take (k * w) (drop w b)) w l, drop-at (take w b) (take (k * w) (drop w b)) w l)
+    (ap (λ (t : List ℕ). valueOf (take w b) ∷ t) (numbers-front w k (drop w b) (omega (arith, length-drop w b))))
+
+-- numbers of eight bits are bytes
+pub numbers-bytes : (k : ℕ) (b : List Bool) → k * 8 ≤ length b → numbers 8 k b ≡ packN k b
+unfolding numbers packN
+numbers-bytes zero b h = refl
+numbers-bytes (suc k) b h =
+    rw (fit-take 8 b (omega arith)) (ap (λ (t : List ℕ). valueOf (take 8 b) ∷ t) (numbers-bytes k (drop 8 b) (omega (arith, length-drop 8 b))))
+
 -- ---- whole bytes
-
-pub bytes-add : (m n : ℕ) (b : List Bool) → packN (m + n) b ≡ packN m b ++ packN n (drop (m * 8) b)
-unfolding packN
-bytes-add zero n b = rw zero-add
-bytes-add (suc m) n b =
-    let e : suc m * 8 ≡ 8 + m * 8 = omega arith in
-    rw (suc-add, e, ← drop-drop (m * 8) 8 b) (ap (λ (l : List ℕ). valueOf (fit 8 b) ∷ l) (bytes-add m n (drop 8 b)))
-
--- one byte more
-pub bytes-suc : (k : ℕ) (b : List Bool) → suc k * 8 ≤ length b → packN (suc k) b ≡ packN k b ++ (valueOf (take 8 (drop (k * 8) b)) ∷ [])
-unfolding packN
-bytes-suc k b h =
-    ap (λ (n : ℕ). packN n b) (sym (add-one k)) ∙ bytes-add k 1 b
-    ∙ ap (λ (x : List Bool). packN k b ++ (valueOf x ∷ [])) (fit-take 8 (drop (k * 8) b) (omega (arith, length-drop (k * 8) b)))
 
 -- bytes whose bits were stored are stored
 pub bytes-wrote : (k : ℕ) (b : List Bool) {s t : List ℕ} {i : ℕ} → k * 8 ≤ length b → Bytes s → Bytes t → unpack t ≡ sets (unpack s) (i * 8) (take (k * 8) b)
@@ -120,25 +113,6 @@ pub bytes-wrote : (k : ℕ) (b : List Bool) {s t : List ℕ} {i : ℕ} → k * 8
 bytes-wrote k b {s} {t} {i} h hs ht e =
     let bits : take (k * 8) b ≡ unpack (packN k b) = sym (unpack-packN k b ∙ fit-take (k * 8) b h) in
     record { stored = bytes-stored s t i (packN k b) hs ht (bytes-packN k b) (rw bits at e); next-is = omega (arith, length-packN k b) }
-
--- ---- numbers of seven bits
-
-pub unsevens-add : (m n : ℕ) (b : List Bool) → unsevens (m + n) b ≡ unsevens m b ++ unsevens n (drop (m * 7) b)
-unfolding unsevens
-unsevens-add zero n b = rw zero-add
-unsevens-add (suc m) n b =
-    let e : suc m * 7 ≡ 7 + m * 7 = omega arith in
-    rw (suc-add, e, ← drop-drop (m * 7) 7 b) (ap (λ (l : List ℕ). valueOf (take 7 b) ∷ l) (unsevens-add m n (drop 7 b)))
-
--- only k times seven bits count
-pub unsevens-front : (k : ℕ) (b : List Bool) → k * 7 ≤ length b → unsevens k (take (k * 7) b) ≡ unsevens k b
-unfolding unsevens
-unsevens-front zero b h = refl
-unsevens-front (suc k) b h =
-    let e : suc k * 7 ≡ 7 + k * 7 = omega arith in
-    let l : length (take 7 b) ≡ 7 = length-take-le 7 b (omega arith) in
-    rw (e, take-add 7 (k * 7) b, take-at (take 7 b) (take (k * 7) (drop 7 b)) 7 l, drop-at (take 7 b) (take (k * 7) (drop 7 b)) 7 l)
-    (ap (λ (t : List ℕ). valueOf (take 7 b) ∷ t) (unsevens-front k (drop 7 b) (omega (arith, length-drop 7 b))))
 
 -- the number i of eight in a word
 pub seven-in : (i j v : ℕ) → i + suc j ≡ 8 → valueOf (take 7 (drop (i * 7) (bitsOf 56 v))) ≡ v / 2 ^ (j * 7) % 128

@@ -1,4 +1,3 @@
 pub mod Read
 pub mod Text7
 pub mod Val
-pub mod Write

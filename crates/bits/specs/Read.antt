@@ -1,9 +1,9 @@
 -- `Reader` of bits.rs, on the bits that are left.
 -- Assumes nothing.
 use mathlib.Core.Bool.{Bool}
-use mathlib.Core.List.{List, map}
+use mathlib.Core.List.{List, [], _∷_, map}
 use mathlib.Core.Option.{Option, none, some}
-use Prim.Native.Nat.{ℕ, _+_}
+use Prim.Native.Nat.{ℕ, zero, suc, _+_}
 use lib.ListN.{length, take, drop}
 use lib.Dec.{leb}
 use Rattle.laws.specs.Bits.{num, valueOf}
@@ -15,6 +15,11 @@ use Rattle.bits.specs.declared.read.Taken.the-variants.{Bits, Short}
 -- `take`: the first n bits as a number, and what is left; nothing where there are fewer
 unfoldable pub takeBits : ℕ → List Bool → Option (ℕ × List Bool)
 takeBits n b = pick (leb n (length b)) (some (valueOf (take n b), drop n b)) none
+
+-- the first k numbers of w bits each
+unfoldable pub numbers : ℕ → ℕ → List Bool → List ℕ
+numbers w zero b = []
+numbers w (suc k) b = valueOf (take w b) ∷ numbers w k (drop w b)
 
 -- a bit as the letter 0 or 1
 abbrev pub letter : Bool → ℕ

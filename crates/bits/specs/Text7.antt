@@ -1,38 +1,16 @@
--- `push_text7` and `text7` of bits.rs: text of seven bits a byte, closed by a pad.
+-- `text7` of bits.rs: text of seven bits a byte, without the pad that closes it.
 -- Assumes nothing.
 use mathlib.Core.Bool.{Bool, true, false, not}
-use mathlib.Core.List.{List, [], _∷_, _++_}
+use mathlib.Core.List.{List, [], _∷_}
 use mathlib.Core.Option.{Option, none, some}
-use Prim.Native.Nat.{ℕ, zero, suc, _+_, _-_, _*_, _/_, _%_, _<_}
-use lib.ListN.{length, getD, take, drop, replicate}
+use Prim.Native.Nat.{ℕ, zero, suc, _+_, _-_, _/_}
+use lib.ListN.{length, drop}
 use lib.Seq.{sets}
-use Rattle.laws.specs.Bits.{num, bitsOf, valueOf}
+use Rattle.laws.specs.Bits.{num}
+use Rattle.bits_write.specs.Text7.{lastOr}
+use Rattle.bits.specs.Read.{numbers}
 use Rattle.bits.specs.declared.read.Got.{Got}
 use Rattle.bits.specs.declared.read.Got.the-variants.{Next, Nothing}
-
--- every byte is below 80
-abbrev pub Sevens : List ℕ → Type 0
-Sevens s = (i : ℕ) → i < length s → getD s i 0 < 128
-
--- "7 bits a byte"
-unfoldable pub sevens : List ℕ → List Bool
-sevens [] = []
-sevens (c ∷ cs) = bitsOf 7 c ++ sevens cs
-
--- k numbers of seven bits
-unfoldable pub unsevens : ℕ → List Bool → List ℕ
-unsevens zero b = []
-unsevens (suc k) b = valueOf (take 7 b) ∷ unsevens k (drop 7 b)
-
--- the last bit, or d where there is none
-unfoldable pub lastOr : Bool → List Bool → Bool
-lastOr d [] = d
-lastOr d (x ∷ xs) = lastOr x xs
-
--- what `push_text7` writes behind `at` bits, the last of which is `last` (false where there is none): the text, "then one or more pad bits
--- up to a whole byte; the pad is the opposite of the last bit written, or 1 if there is none"
-unfoldable pub text7Bits : ℕ → Bool → List ℕ → List Bool
-text7Bits at last cs = sevens cs ++ replicate (8 - (at + length cs * 7) % 8) (not (lastOr last (sevens cs)))
 
 unfoldable pub differ : Bool → Bool → Bool
 differ true b = not b
@@ -51,7 +29,7 @@ endOf p (x ∷ xs) = counted (differ x p) (endOf p xs)
 -- what `text7` reads from a place of a message's bits: it "drops the trailing run of equal bits and reads sevens; on no bits at all it gives `None`"
 unfoldable pub text7Of : List Bool → ℕ → Option (List ℕ)
 text7Of [] at = none
-text7Of (x ∷ xs) at = some (unsevens ((endOf (lastOr x xs) (x ∷ xs) - at) / 7) (drop at (x ∷ xs)))
+text7Of (x ∷ xs) at = some (numbers 7 ((endOf (lastOr x xs) (x ∷ xs) - at) / 7) (drop at (x ∷ xs)))
 
 -- the answer, with the next place of an output that is written from `to` on, and the output then
 unfoldable pub text7Next : ℕ → Option (List ℕ) → Got

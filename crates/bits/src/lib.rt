@@ -1,18 +1,10 @@
-// Bits, most significant first, in packed bytes, and the number at the front of a text: bits.rs of the source.
+// Bits, most significant first, from packed bytes, and the number at the front of a text: bits.rs of the source but for its writers.
 pub mod read;
 pub mod reader;
-pub mod write;
 
 ghost use mathlib.Core.Path.{_≡_};
 ghost use Prim.Native.Nat.{_+_, _*_, _<_, min};
 ghost use Rattle.bits.specs.Val.{stops, nextVal, valOf};
-
-// A byte as a word.
-fn wide(x: u8) -> u64
-    ensures { λ r. ⌜ r ≡ x ⌝ }
-{
-    x as u64
-}
 
 // a * 10 + d, or the largest word.
 fn saturating(a: u64, d: u64) -> u64

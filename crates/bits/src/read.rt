@@ -8,13 +8,15 @@ ghost use lib.Seq.{sets};
 ghost use Rattle.laws.specs.Bits.{odd, num, bitsOf, valueOf, packN, unpack};
 ghost use Rattle.laws.specs.Digits.{numberOf};
 ghost use Rattle.laws.specs.Wrote.{Wrote};
-ghost use Rattle.bits.specs.Read.{takeBits, takeText, letter, taken};
-ghost use Rattle.bits.specs.Text7.{endOf, unsevens, text7Of, text7Next, text7Left};
-use crate::wide;
-use crate::write::byte;
-use crate::write::least;
-use crate::write::power;
-use crate::write::put_bytes;
+ghost use Rattle.bits.specs.Read.{takeBits, takeText, numbers, letter, taken};
+ghost use Rattle.bits.specs.Text7.{endOf, text7Of, text7Next, text7Left};
+use bits_write::byte;
+use bits_write::least;
+use bits_write::put_bytes;
+use bits_write::words::one;
+use bits_write::words::power;
+use bits_write::words::wide;
+use bits_write::words::word;
 
 // A number and the next position, or too few bits.
 pub enum Taken {
@@ -45,38 +47,6 @@ fn get_bit(s: &[u8], at: usize) -> u64
     let i = at / 8;
     let j = 7 - at % 8;
     (wide(s[i]) >> j) % 2
-}
-
-// The byte i.
-fn one(s: &[u8], i: usize) -> u64
-    requires { ⌜ i < length (now s) ⌝ }
-    ensures { λ r. ⌜ (bitsOf 8 r ≡ take 8 (drop (i * 8) (unpack (now (s .entry))))) × (r < 2 ^ 8) ⌝ }
-{
-    wide(s[i])
-}
-
-// Two bytes from byte i on, as one number.
-fn two(s: &[u8], i: usize) -> u64
-    requires { ⌜ i + 2 ≤ length (now s) ⌝ }
-    ensures { λ r. ⌜ (bitsOf 16 r ≡ take 16 (drop (i * 8) (unpack (now (s .entry))))) × (r < 2 ^ 16) ⌝ }
-{
-    one(s, i) * 256 + one(s, i + 1)
-}
-
-// Four.
-fn four(s: &[u8], i: usize) -> u64
-    requires { ⌜ i + 4 ≤ length (now s) ⌝ }
-    ensures { λ r. ⌜ (bitsOf 32 r ≡ take 32 (drop (i * 8) (unpack (now (s .entry))))) × (r < 2 ^ 32) ⌝ }
-{
-    two(s, i) * 0x1_0000 + two(s, i + 2)
-}
-
-// Eight.
-pub(crate) fn word(s: &[u8], i: usize) -> u64
-    requires { ⌜ i + 8 ≤ length (now s) ⌝ }
-    ensures { λ r. ⌜ bitsOf 64 r ≡ take 64 (drop (i * 8) (unpack (now (s .entry)))) ⌝ }
-{
-    four(s, i) * 0x1_0000_0000 + four(s, i + 4)
 }
 
 // The n bits from a position on, as a number, where eight bytes are left.
@@ -206,7 +176,7 @@ fn low(v: u64) -> u8
 // Eight numbers of seven bits, to a place of the output.
 fn put_eight(out: &mut [u8], to: usize, v: u64)
     requires { ⌜ to + 8 ≤ length (now out) ⌝ }
-    ensures { λ _. ⌜ Wrote (now (out .entry)) to (unsevens 8 (bitsOf 56 v)) (now (out .exit)) (to + 8) ⌝ }
+    ensures { λ _. ⌜ Wrote (now (out .entry)) to (numbers 7 8 (bitsOf 56 v)) (now (out .exit)) (to + 8) ⌝ }
 {
     let mut k = to;
     let mut left: usize = 8;
@@ -221,7 +191,7 @@ fn put_eight(out: &mut [u8], to: usize, v: u64)
 fn blocks(s: &[u8], at: usize, n: usize, out: &mut [u8], to: usize) -> usize
     requires { ⌜ (n ≤ (length (now s) * 8 - at) / 7) × (length (now s) < 2 ^ 60) × (to < length (now out)) ⌝ }
     ensures { λ r. ⌜ r ≤ n ⌝ }
-    ensures { λ r. ⌜ Wrote (now (out .entry)) to (unsevens r (drop at (unpack (now (s .entry))))) (now (out .exit)) (to + r) ⌝ }
+    ensures { λ r. ⌜ Wrote (now (out .entry)) to (numbers 7 r (drop at (unpack (now (s .entry))))) (now (out .exit)) (to + r) ⌝ }
 {
     // nine numbers left are 63 bits, and those reach into eight bytes
     let most = least(n, out.len() - to);
@@ -233,15 +203,17 @@ fn blocks(s: &[u8], at: usize, n: usize, out: &mut [u8], to: usize) -> usize
     i
 }
 
-// n numbers of seven bits, one by one, written from a place of the output on. The next place.
-fn sevens_each(s: &[u8], at: usize, n: usize, out: &mut [u8], to: usize) -> usize
-    requires { ⌜ (n ≤ (length (now s) * 8 - at) / 7) × (length (now s) < 2 ^ 60) × (to + n < 2 ^ 62) ⌝ }
-    ensures { λ r. ⌜ Wrote (now (out .entry)) to (unsevens n (drop at (unpack (now (s .entry))))) (now (out .exit)) r ⌝ }
+// n numbers of w bits, one by one, written from a place of the output on. The next place.
+fn each(s: &[u8], at: usize, w: usize, n: usize, out: &mut [u8], to: usize) -> usize
+    requires { ⌜ (0 < w) × (w ≤ 8) × (n * w ≤ length (now s) * 8 - at) × (length (now s) < 2 ^ 60) × (to + n < 2 ^ 62) ⌝ }
+    ensures { λ r. ⌜ Wrote (now (out .entry)) to (numbers w n (drop at (unpack (now (s .entry))))) (now (out .exit)) r ⌝ }
 {
     let mut next = to;
+    let mut pos = at;
     let mut i = 0;
     while i < n {
-        next = byte(out, next, value(s, at + i * 7, 7) as u8);
+        next = byte(out, next, value(s, pos, w) as u8);
+        pos += w;
         i += 1;
     }
     next
@@ -250,13 +222,13 @@ fn sevens_each(s: &[u8], at: usize, n: usize, out: &mut [u8], to: usize) -> usiz
 // n numbers of seven bits, written from a place of the output on. The next place.
 fn sevens(s: &[u8], at: usize, n: usize, out: &mut [u8], to: usize) -> usize
     requires { ⌜ (n ≤ (length (now s) * 8 - at) / 7) × (length (now s) < 2 ^ 60) × (to < 2 ^ 61) ⌝ }
-    ensures { λ r. ⌜ Wrote (now (out .entry)) to (unsevens n (drop at (unpack (now (s .entry))))) (now (out .exit)) r ⌝ }
+    ensures { λ r. ⌜ Wrote (now (out .entry)) to (numbers 7 n (drop at (unpack (now (s .entry))))) (now (out .exit)) r ⌝ }
 {
     if out.len() <= to {
         return to + n;
     }
     let i = blocks(s, at, n, out, to);
-    sevens_each(s, at + i * 7, n - i, out, to + i)
+    each(s, at + i * 7, 7, n - i, out, to + i)
 }
 
 // The text from a position on, without the pad, written from a place of the output on.
@@ -299,20 +271,6 @@ fn words(s: &[u8], at: usize, n: usize, out: &mut [u8], to: usize) -> usize
     i
 }
 
-// n bytes, one by one, written from a place of the output on. The next place.
-fn bytes_each(s: &[u8], at: usize, n: usize, out: &mut [u8], to: usize) -> usize
-    requires { ⌜ (n ≤ (length (now s) * 8 - at) / 8) × (length (now s) < 2 ^ 60) × (to + n < 2 ^ 62) ⌝ }
-    ensures { λ r. ⌜ Wrote (now (out .entry)) to (packN n (drop at (unpack (now (s .entry))))) (now (out .exit)) r ⌝ }
-{
-    let mut next = to;
-    let mut i = 0;
-    while i < n {
-        next = byte(out, next, value(s, at + i * 8, 8) as u8);
-        i += 1;
-    }
-    next
-}
-
 // The whole bytes from a position on, written from a place of the output on. The next place.
 pub fn bytes(s: &[u8], at: usize, out: &mut [u8], to: usize) -> usize
     requires { ⌜ (length (now s) < 2 ^ 60) × (to < 2 ^ 61) ⌝ }
@@ -323,5 +281,5 @@ pub fn bytes(s: &[u8], at: usize, out: &mut [u8], to: usize) -> usize
         return to + n;
     }
     let i = words(s, at, n, out, to);
-    bytes_each(s, at + i * 8, n - i, out, to + i)
+    each(s, at + i * 8, 8, n - i, out, to + i)
 }

@@ -13,7 +13,9 @@ use Rattle.laws.specs.Pick.{pick}
 use Rattle.laws.specs.Text.{ascii, same, between, upper, isOneOf, starts, later, position, trimFront, keepOr, trimEnd, trim}
 use Rattle.crc.specs.Crc.{crcBit, crcSteps, crcByte, crcFrom, crcOf, crcBits}
 use Rattle.bits.specs.Read.{letter, takeBits, takeText}
-use Rattle.bits.specs.Text7.{sevens, unsevens, lastOr, text7Bits, differ, counted, endOf, text7Of}
+use Rattle.bits_write.specs.Text7.{sevens, lastOr, text7Bits}
+use Rattle.bits.specs.Read.{numbers}
+use Rattle.bits.specs.Text7.{differ, counted, endOf, text7Of}
 use Rattle.bits.specs.Val.{stops, nextVal, valFrom, valOf}
 use Rattle.refusals.specs.Outcome.{Outcome, refused, answer}
 use Rattle.sender.specs.Send.{countFor, sendOf, ceiling, countOf, checkOf, leadOf, fragmentOf, mostOf}
@@ -116,5 +118,5 @@ all [] = true
 all (e ∷ es) = holds e && all es
 
 pub table-holds : all table ≡ true
-unfolding frame message table givesMessage givesData givesCount isRefused givesFragment givesBits givesCall holds all odd num bitsOf valueOf fit packN pack unpack pick between upper same isOneOf starts later position trimFront keepOr trimEnd trim crcBit crcSteps crcByte crcFrom crcOf crcBits takeBits takeText sevens unsevens lastOr text7Bits differ counted endOf text7Of stops nextVal valFrom valOf ceiling countOf countFor checkOf leadOf fragmentOf mostOf sendOf callAlphabet long symOf alphaOf wideTokens wideRow pairRows pairTexts fixedRows numberedRows hyphened baseOf behind numberAt twoDigits decimal suffix pairBits pairsBits fixedBits takes numberedBits spell ending plainAp apBits spelledBits orElse tokenBits after pairForm fixedForm numberedForm symbolForm formOf wideNumber readPair readNumber letterOf goOn readLetters readSpelled readForm readToken white half addrCall double cutTo ssidOf callBytes anyHigh classifyOf splitOff digiFields parseOf typeOf headerOf bodyBytes tokensBits digiBits headBits infoBits frameBits codeParsed encodeOf marked readTokens readDigis readHead readInfo addresses readFrame genericOf genericBack codeOf decodeMessage decodeSome decodeOf
+unfolding frame message table givesMessage givesData givesCount isRefused givesFragment givesBits givesCall holds all odd num bitsOf valueOf fit packN pack unpack pick between upper same isOneOf starts later position trimFront keepOr trimEnd trim crcBit crcSteps crcByte crcFrom crcOf crcBits takeBits takeText sevens numbers lastOr text7Bits differ counted endOf text7Of stops nextVal valFrom valOf ceiling countOf countFor checkOf leadOf fragmentOf mostOf sendOf callAlphabet long symOf alphaOf wideTokens wideRow pairRows pairTexts fixedRows numberedRows hyphened baseOf behind numberAt twoDigits decimal suffix pairBits pairsBits fixedBits takes numberedBits spell ending plainAp apBits spelledBits orElse tokenBits after pairForm fixedForm numberedForm symbolForm formOf wideNumber readPair readNumber letterOf goOn readLetters readSpelled readForm readToken white half addrCall double cutTo ssidOf callBytes anyHigh classifyOf splitOff digiFields parseOf typeOf headerOf bodyBytes tokensBits digiBits headBits infoBits frameBits codeParsed encodeOf marked readTokens readDigis readHead readInfo addresses readFrame genericOf genericBack codeOf decodeMessage decodeSome decodeOf
 table-holds = refl

@@ -2,7 +2,7 @@
 ghost use mathlib.Core.Path.{_≡_};
 ghost use Prim.Native.Nat.{_+_, _^_, _≤_, _<_};
 ghost use lib.ListN.{length};
-use bits::write::copy;
+use bits_write::copy;
 use texts::number::Number;
 use texts::number::decimal;
 use texts::part::find;

@@ -11,8 +11,8 @@ use borrow.Author.Tests.{le-ltb, ltb-false}
 use Rattle.laws.specs.Pick.{pick}
 use Rattle.laws.proofs.ByteLaws.{length-pack}
 use Rattle.laws.proofs.Cases.{by-test}
-use Rattle.bits.specs.Text7.{text7Bits}
-use Rattle.bits.proofs.Text7Laws.{length-text7}
+use Rattle.bits_write.specs.Text7.{text7Bits}
+use Rattle.bits_write.proofs.Text7Laws.{length-text7}
 use Rattle.refusals.specs.Outcome.{Outcome, refused, answer}
 use Rattle.ax25_address.specs.Types.{Text, Generic}
 use Rattle.ax25_address.specs.Classify.{anyHigh}

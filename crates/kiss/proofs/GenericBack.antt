@@ -11,8 +11,9 @@ use Rattle.laws.specs.Bits.{odd, pack}
 use Rattle.laws.specs.Pick.{pick}
 use Rattle.laws.proofs.ByteLaws.{length-pack, unpack-whole}
 use Rattle.laws.proofs.Cases.{by-test, pick-false}
-use Rattle.bits.specs.Text7.{lastOr, text7Bits}
-use Rattle.bits.proofs.Text7Laws.{length-text7, text7-back}
+use Rattle.bits_write.specs.Text7.{lastOr, text7Bits}
+use Rattle.bits_write.proofs.Text7Laws.{length-text7}
+use Rattle.bits.proofs.Text7Laws.{text7-back}
 use Rattle.refusals.specs.Outcome.{Outcome, answer}
 use Rattle.ax25_address.specs.Types.{Text, Generic}
 use Rattle.ax25_address.specs.Classify.{anyHigh}

@@ -14,9 +14,10 @@ use Rattle.laws.proofs.ByteLaws.{unpack-whole}
 use Rattle.laws.proofs.Cases.{pick-true, pick-false}
 use Rattle.laws.proofs.ListLaws.{from-place}
 use Rattle.laws.proofs.WroteLaws.{wrote-as}
-use Rattle.bits.specs.Text7.{text7Bits, text7Of, text7Next, text7Left}
+use Rattle.bits_write.specs.Text7.{text7Bits}
+use Rattle.bits.specs.Text7.{text7Of, text7Next, text7Left}
 use Rattle.bits.specs.declared.read.Got.the-variants.{Nothing, Next}
-use Rattle.bits.proofs.Text7Laws.{length-text7, text7-whole}
+use Rattle.bits_write.proofs.Text7Laws.{length-text7, text7-whole}
 use Rattle.ax25_address.specs.Classify.{anyHigh}
 use Rattle.ax25.proofs.PackLaws.{behind-byte, byte-leaves, pack-wrote}
 use Rattle.kiss.specs.Generic.{genericOf, genericBack}

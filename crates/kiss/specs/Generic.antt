@@ -6,7 +6,8 @@ use mathlib.Core.Option.{Option·getD}
 use Prim.Native.Nat.{ℕ}
 use Rattle.laws.specs.Bits.{odd, pack, unpack}
 use Rattle.laws.specs.Pick.{pick}
-use Rattle.bits.specs.Text7.{text7Bits, text7Of}
+use Rattle.bits_write.specs.Text7.{text7Bits}
+use Rattle.bits.specs.Text7.{text7Of}
 use Rattle.ax25_address.specs.Classify.{anyHigh}
 
 unfoldable pub genericOf : List ℕ → List ℕ

@@ -12,11 +12,11 @@ pub(crate) fn generic_encode(data: &[u8], out: &mut [u8]) -> usize
     ensures { λ r. ⌜ Wrote (now (out .entry)) 0 (genericOf (now («data» .entry))) (now (out .exit)) r ⌝ }
 {
     if ax25_address::classify::any_high(data) {
-        bits::write::byte(out, 0, 0x20);
-        return bits::write::copy(out, 1, data);
+        bits_write::byte(out, 0, 0x20);
+        return bits_write::copy(out, 1, data);
     }
-    bits::write::byte(out, 0, 0x21);
-    bits::write::push_text7(out, 8, false, data) / 8
+    bits_write::byte(out, 0, 0x21);
+    bits_write::push_text7(out, 8, false, data) / 8
 }
 
 // The bytes of a message with a header, as far as the output goes. Their length.
@@ -25,7 +25,7 @@ pub(crate) fn generic_decode(message: &[u8], out: &mut [u8]) -> usize
     ensures { λ r. ⌜ Wrote (now (out .entry)) 0 (genericBack (getD (now (message .entry)) 0 0) (drop 1 (now (message .entry)))) (now (out .exit)) r ⌝ }
 {
     if message[0] % 2 == 0 {
-        return bits::write::copy(out, 0, &message[1..]);
+        return bits_write::copy(out, 0, &message[1..]);
     }
     let Got::Next(n) = bits::reader::text7_at(&message[1..], 0, out, 0) else {
         return 0;

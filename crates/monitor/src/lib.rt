@@ -15,7 +15,7 @@ use ax25_address::address::addr_call;
 use ax25_address::parse::Digis;
 use ax25_address::parse::addr_end;
 use ax25_address::parse::digipeaters;
-use bits::write::byte;
+use bits_write::byte;
 use texts::show::put_shown;
 
 // The call of an address field of l letters, as it is or in capitals. The next place.

@@ -182,7 +182,7 @@ impl Reassembler {
             return dropped;
         }
         head(store, held, first);
-        let end = bits::write::copy(store, base, tail);
+        let end = bits_write::copy(store, base, tail);
         let next = Reassembler {
             held: end,
             nfrag: nfrag + 1,

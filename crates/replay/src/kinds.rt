@@ -156,15 +156,15 @@ fn push(line: &[u8], highest: bool) -> Outcome {
         return Outcome::Bad;
     }
     let mut out = [0u8; 16];
-    let mid = bits::write::push(&mut out, 0, r.v, r.at);
+    let mid = bits_write::push(&mut out, 0, r.v, r.at);
     if !highest {
-        let end = (bits::write::push(&mut out, mid, r.w, r.n) + 7) / 8;
+        let end = (bits_write::push(&mut out, mid, r.w, r.n) + 7) / 8;
         return same_bytes(field(line, 5), &out[0..end]);
     }
     if r.n == 0 {
         return Outcome::Bad;
     }
-    let end = (bits::write::push_bfi(&mut out, mid, r.w, r.n) + 7) / 8;
+    let end = (bits_write::push_bfi(&mut out, mid, r.w, r.n) + 7) / 8;
     same_bytes(field(line, 5), &out[0..end])
 }
 
@@ -185,9 +185,9 @@ fn push_text(out: &mut [u8], v: u64, at: usize, text: &[u8]) -> usize
     requires { ⌜ (at ≤ 64) × (length (now text) ≤ 65536) ⌝ }
     ensures { λ r. ⌜ r ≤ 65536 ⌝ }
 {
-    let mid = bits::write::push(out, 0, v, at);
+    let mid = bits_write::push(out, 0, v, at);
     let last = 0 < at && v % 2 == 1;
-    bits::write::push_text7(out, mid, last, text) / 8
+    bits_write::push_text7(out, mid, last, text) / 8
 }
 
 // take AT N HEX VALUE: the number of N bits at AT

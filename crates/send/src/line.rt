@@ -6,7 +6,7 @@ ghost use Rattle.laws.specs.Wrote.{Wrote};
 ghost use Rattle.frame.specs.Frame.{buildOf};
 ghost use Rattle.sender.specs.Send.{countFor, sendOf};
 ghost use Rattle.send.specs.Line.{plain, marker, framedOf, framesOf, countedText, dataText, spelledText, lineText, Sends};
-use bits::write::byte;
+use bits_write::byte;
 use frame::Control;
 use input::room;
 use kiss::Encoded;

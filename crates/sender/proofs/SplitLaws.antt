@@ -219,10 +219,3 @@ fragment-fits message field mask low zero =
 fragment-fits message field mask low (suc k) =
     rw (fragment-suc message field mask k)
     (omega (arith, length-take (field - 1) (drop (field - 2 + k * (field - 1)) (drop 1 message))))
-
-pub fragment-some : (message : List ℕ) (field mask : ℕ) → 0 < length message → (k : ℕ) → 0 < length (fragmentOf message field mask k)
-fragment-some message field mask some zero =
-    by-le (length message) field
-    (λ h. rw (fragment-single message field mask h) some)
-    (λ h. rw (fragment-first message field mask h) (omega arith))
-fragment-some message field mask some (suc k) = rw (fragment-suc message field mask k) (omega arith)

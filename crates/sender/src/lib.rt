@@ -2,13 +2,14 @@
 ghost use mathlib.Core.Bool.{true};
 ghost use mathlib.Core.Path.{_≡_};
 ghost use mathlib.Core.List.{_∷_};
-ghost use Prim.Native.Nat.{_+_, _-_, _≤_, _<_, min};
+ghost use Prim.Native.Nat.{_+_, _-_, _≤_, _<_};
 ghost use lib.ListN.{length, take, drop, getD};
 ghost use Rattle.refusals.specs.Limits.{fieldOk, maskOk};
 ghost use Rattle.refusals.specs.Outcome.{left, into, outcomeOf, answer};
 ghost use Rattle.sender.specs.Send.{ceiling, countOf, countFor, countedOf, checkOf, leadOf, fragmentOf, sendOf};
-use bits::write::byte;
-use bits::write::copy;
+use bits_write::byte;
+use bits_write::copy;
+use bits_write::least;
 use refusals::Answer;
 
 // How many fragments a message takes, or a refusal's number.
@@ -70,22 +71,12 @@ fn lead_of(first: u8, k: usize, count: usize) -> u8
     first
 }
 
-// The lesser of two numbers.
-fn min_of(a: usize, b: usize) -> usize
-    ensures { λ r. ⌜ r ≡ min a b ⌝ }
-{
-    if a < b {
-        return a;
-    }
-    b
-}
-
 // A later fragment: its first byte, and the message from a place on, as much as the field takes.
 fn next_of(message: &[u8], field: usize, start: usize, lead: u8, out: &mut [u8]) -> Answer
     requires { ⌜ (3 ≤ field) × ((field ≤ 512) × (start ≤ length (now message))) ⌝ }
     ensures { λ r. ⌜ left (outcomeOf r) (now (out .exit)) ≡ into (answer (lead ∷ take (field - 1) (drop start (now (message .entry))))) (now (out .entry)) ⌝ }
 {
-    let n = min_of(field - 1, message.len() - start);
+    let n = least(field - 1, message.len() - start);
     let size = n + 1;
     if out.len() < size {
         return Answer::Refused(refusals::OUTPUT);

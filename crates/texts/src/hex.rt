@@ -5,7 +5,7 @@ ghost use Prim.Native.Nat.{_*_, _^_, _≤_, _<_};
 ghost use lib.ListN.{length};
 ghost use Rattle.laws.specs.Wrote.{Wrote};
 ghost use Rattle.texts.specs.Hex.{digitOf, hexByte, hexOf, hexValue, isHex, bytesOf, readOf, leftBy};
-use bits::write::byte;
+use bits_write::byte;
 
 const DIGITS: [u8; 16] = *b"0123456789ABCDEF";
 

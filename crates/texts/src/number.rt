@@ -4,7 +4,7 @@ ghost use mathlib.Core.List.{[], _∷_};
 ghost use Prim.Native.Nat.{_<_, _^_};
 ghost use Rattle.laws.specs.Wrote.{Wrote};
 ghost use Rattle.texts.specs.Number.{numeralOf, numberFrom, decimalOf, numberIs};
-use bits::write::byte;
+use bits_write::byte;
 
 // What decimal digits spell: none where there is another byte, no byte, or more than 64 bits.
 pub enum Number {

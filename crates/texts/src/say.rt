@@ -7,8 +7,8 @@ ghost use Rattle.texts.specs.Say.{wordOf, commandOf, numberedLine, refus
 use crate::hex::Read;
 use crate::number::put_number;
 use crate::part::piece;
-use bits::write::byte;
-use bits::write::copy;
+use bits_write::byte;
+use bits_write::copy;
 
 // The commands by name, in order.
 const WORDS: [u8; 17] = *b"ax25|long|generic";

@@ -8,8 +8,8 @@ ghost use Rattle.laws.specs.Wrote.{Wrote};
 ghost use Rattle.texts.specs.Hex.{hexByte};
 ghost use Rattle.texts.specs.Show.{shownByte, shown};
 use crate::hex::put_byte;
-use bits::write::byte;
-use bits::write::copy;
+use bits_write::byte;
+use bits_write::copy;
 
 // A byte by its digits. The next place.
 fn put_number(out: &mut [u8], at: usize, x: u8) -> usize

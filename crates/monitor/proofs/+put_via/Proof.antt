@@ -13,7 +13,7 @@ use borrow.Fn.PlainCycle.{Measures, is, falls, and}
 use Rattle.monitor.proofs.put_via.Reads as put-via
 use Rattle.monitor.proofs.put_via.Kinds as put-via-kinds
 use Rattle.monitor.proofs.+put_via.Lts-put_via as put-via-lts
-use Rattle.bits.proofs.write.byte.Reads as byte-reads
+use Rattle.bits_write.proofs.byte.Reads as byte-reads
 use Rattle.monitor.proofs.any_heard.Reads as any-heard-reads
 use Rattle.monitor.proofs.put_call.Reads as put-call-reads
 use Rattle.monitor.proofs.put_star.Reads as put-star-reads

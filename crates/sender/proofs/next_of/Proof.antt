@@ -25,14 +25,14 @@ least-part n start l r e =
     (λ h. take-all (start + r - start) (drop start l) (omega (arith, length-drop start l))
     ∙ sym (take-all n (drop start l) (omega (arith, length-drop start l))))
 
-sub-min-of : tie.Need-sub-min-of
-sub-min-of c = search needs
+sub-least : tie.Need-sub-least
+sub-least c = search needs
 
-sub-min-of-2 : tie.Need-sub-min-of-2
-sub-min-of-2 c = search needs
+sub-least-2 : tie.Need-sub-least-2
+sub-least-2 c = search needs
 
-min-of-requires : tie.Need-min-of-requires
-min-of-requires c κs = search needs
+least-requires : tie.Need-least-requires
+least-requires c κs = search needs
 
 add-size : tie.Need-add-size
 add-size c = search needs
@@ -42,7 +42,7 @@ returns c =
     let a = c .before .before .before .before .args in
     let m = now (a .message) in
     sym (into-short (a .lead ∷ take (a .field - 1) (drop (a .start) m)) (now (a .out))
-    (omega (arith, size (a .field - 1) (a .start) m, c .before .min-of .ensures, c .if1 .taken)))
+    (omega (arith, size (a .field - 1) (a .start) m, c .before .least .ensures, c .if1 .taken)))
 
 byte-requires : tie.Need-byte-requires
 byte-requires c κs = search needs
@@ -70,7 +70,7 @@ returns-2 c =
     let copied = c .before .before in
     let wrote = copied .before .before .before .before .before in
     let else1 = wrote .before .before in
-    let least = else1 .before .min-of in
+    let least = else1 .before .least in
     let a = else1 .before .before .before .before .args in
     let m = now (a .message) in
     let part = take (a .field - 1) (drop (a .start) m) in
@@ -84,9 +84,9 @@ pub next-of-spec : {M : Type 1} → statement M
 next-of-spec =
     tie.close
     (tie.spec
-    sub-min-of
-    sub-min-of-2
-    min-of-requires
+    sub-least
+    sub-least-2
+    least-requires
     add-size
     returns
     byte-requires

@@ -14,7 +14,7 @@ use borrow.Fn.PlainCycle.{Measures, is, falls, and}
 use Rattle.ax25.proofs.encode.put_heard.Reads as put-heard
 use Rattle.ax25.proofs.encode.put_heard.Kinds as put-heard-kinds
 use Rattle.ax25.proofs.encode.+put_heard.Lts-put_heard as put-heard-lts
-use Rattle.bits.proofs.write.bit.Reads as bit-reads
+use Rattle.bits_write.proofs.bit.Reads as bit-reads
 use Rattle.ax25.proofs.encode.+put_heard.{statement}
 use Rattle.ax25.proofs.encode.+put_heard.Tie.{close}
 

@@ -12,13 +12,13 @@ use Rattle.laws.specs.Bits.{bitsOf, unpack}
 use Rattle.laws.specs.Wrote.{Wrote}
 use Rattle.laws.proofs.ByteLaws.{length-unpack}
 use Rattle.laws.proofs.WroteLaws.{wrote-then, wrote-as}
-use Rattle.bits.specs.Text7.{unsevens}
-use Rattle.bits.proofs.WordLaws.{unsevens-add, unsevens-front}
+use Rattle.bits.specs.Read.{numbers}
+use Rattle.bits.proofs.WordLaws.{numbers-add, numbers-front}
 use Rattle.bits.proofs.read.blocks.Statement.{statement}
 use Rattle.bits.proofs.read.blocks.Tie as tie
 
 abbrev Inv-loop : tie.InvT-loop
-Inv-loop s at n out₀ to most i₀ out i = (i ≤ n) × (i ≤ most) × (length out ≡ length out₀) × Wrote out₀ to (unsevens i (drop at (unpack s))) out (to + i)
+Inv-loop s at n out₀ to most i₀ out i = (i ≤ n) × (i ≤ most) × (length out ≡ length out₀) × Wrote out₀ to (numbers 7 i (drop at (unpack s))) out (to + i)
 
 abbrev μ-loop : tie.MeasureT-loop
 μ-loop s at n out₀ to most i₀ out i = most - i
@@ -30,7 +30,7 @@ least-requires : tie.Need-least-requires Inv-loop μ-loop
 least-requires c κs = search needs
 
 loop-holds : tie.Need-loop-holds Inv-loop μ-loop
-unfolding unsevens
+unfolding numbers
 loop-holds c =
     let a = c .before .before .before .args in
     (search needs, search needs, search needs, record { stored = refl; next-is = refl })
@@ -66,10 +66,10 @@ loop-again c =
     let b = unpack (now (a .s)) in
     let i = at-loop .loop .i in
     let v = c .before .before .before .block in
-    let eight : unsevens 8 (bitsOf 56 (v .result)) ≡ unsevens 8 (drop (i * 7) (drop (a .at) b)) =
-    rw (v .ensures, drop-drop (i * 7) (a .at) b) (unsevens-front 8 (drop (a .at + i * 7) b) (omega (arith, length-drop (a .at + i * 7) b, length-unpack (now (a .s))))) in
-    let put : Wrote (at-loop .loop .out) (a .to + i) (unsevens 8 (drop (i * 7) (drop (a .at) b))) _ (a .to + i + 8) = wrote-as eight (c .before .before .put-eight .ensures) in
-    (search needs, search needs, search needs, rw (unsevens-add i 8 (drop (a .at) b), ← add-assoc (a .to) i 8) (wrote-then (at-loop .loop .inv .3) put))
+    let eight : numbers 7 8 (bitsOf 56 (v .result)) ≡ numbers 7 8 (drop (i * 7) (drop (a .at) b)) =
+    rw (v .ensures, drop-drop (i * 7) (a .at) b) (numbers-front 7 8 (drop (a .at + i * 7) b) (omega (arith, length-drop (a .at + i * 7) b, length-unpack (now (a .s))))) in
+    let put : Wrote (at-loop .loop .out) (a .to + i) (numbers 7 8 (drop (i * 7) (drop (a .at) b))) _ (a .to + i + 8) = wrote-as eight (c .before .before .put-eight .ensures) in
+    (search needs, search needs, search needs, rw (numbers-add 7 i 8 (drop (a .at) b), ← add-assoc (a .to) i 8) (wrote-then (at-loop .loop .inv .3) put))
 
 same-length : tie.Need-same-length Inv-loop μ-loop
 same-length c = search needs

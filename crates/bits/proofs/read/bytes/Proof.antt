@@ -2,7 +2,7 @@
 -- Assumes nothing.
 use borrow.Author.Needs.{needs}
 use native.Mathlib.Omega.{arith}
-use mathlib.Core.Path.{_≡_, sym}
+use mathlib.Core.Path.{_≡_, sym, _∙_}
 use mathlib.Core.List.{_++_}
 use Prim.Native.Nat.{_+_, _-_, _*_, _/_, _≤_}
 use lib.ListN.{length, drop, length-drop}
@@ -11,7 +11,8 @@ use denote.Ref.{now}
 use Rattle.laws.specs.Bits.{packN, unpack}
 use Rattle.laws.proofs.ByteLaws.{length-unpack, length-packN}
 use Rattle.laws.proofs.WroteLaws.{wrote-then, wrote-as}
-use Rattle.bits.proofs.WordLaws.{bytes-add, bytes-wrote, unwritten}
+use Rattle.bits.specs.Read.{numbers}
+use Rattle.bits.proofs.WordLaws.{numbers-add, numbers-bytes, bytes-wrote, unwritten}
 use Rattle.bits.proofs.read.bytes.Statement.{statement}
 use Rattle.bits.proofs.read.bytes.Tie as tie
 
@@ -31,20 +32,20 @@ returns c =
 words-requires : tie.Need-words-requires
 words-requires c κs = search needs
 
-mul-bytes-each : tie.Need-mul-bytes-each
-mul-bytes-each c = search needs
+mul-each : tie.Need-mul-each
+mul-each c = search needs
 
-add-bytes-each : tie.Need-add-bytes-each
-add-bytes-each c = search needs
+add-each : tie.Need-add-each
+add-each c = search needs
 
-sub-bytes-each : tie.Need-sub-bytes-each
-sub-bytes-each c = search needs
+sub-each : tie.Need-sub-each
+sub-each c = search needs
 
-add-bytes-each-2 : tie.Need-add-bytes-each-2
-add-bytes-each-2 c = search needs
+add-each-2 : tie.Need-add-each-2
+add-each-2 c = search needs
 
-bytes-each-requires : tie.Need-bytes-each-requires
-bytes-each-requires c κs = search needs
+each-requires : tie.Need-each-requires
+each-requires c κs = search needs
 
 same-length : tie.Need-same-length
 same-length c = search needs
@@ -63,8 +64,9 @@ returns-2 c =
     let all : i + (n - i) ≡ n = omega arith in
     let room : i * 8 ≤ length d = omega (arith, left .ensures, first .ensures .0, length-drop (a .at) b, length-unpack (now (a .s))) in
     let front = bytes-wrote i d {i = a .to} room (λ j h. omega (arith, known .slice-known .given j)) (λ j h. omega (arith, back .slice-known2 .given j)) (first .ensures .1) in
-    let parts : packN i d ++ packN (n - i) (drop (a .at + i * 8) b) ≡ packN n d = rw (← drop-drop (i * 8) (a .at) b) (sym (rw all at (bytes-add i (n - i) d))) in
-    rw (← left .ensures) (wrote-as parts (wrote-then front (c .before .before .bytes-each .ensures)))
+    let bytes = numbers-bytes n d (omega (arith, left .ensures, length-drop (a .at) b, length-unpack (now (a .s)))) in
+    let parts : numbers 8 i d ++ numbers 8 (n - i) (drop (a .at + i * 8) b) ≡ packN n d = rw (← drop-drop (i * 8) (a .at) b) (sym (rw all at (numbers-add 8 i (n - i) d)) ∙ bytes) in
+    rw (← left .ensures) (wrote-as parts (wrote-then (wrote-as (sym (numbers-bytes i d room)) front) (c .before .before .each .ensures)))
 
 pub bytes-spec : {M : Type 1} → statement M
 bytes-spec =
@@ -74,10 +76,10 @@ bytes-spec =
     add-result
     returns
     words-requires
-    mul-bytes-each
-    add-bytes-each
-    sub-bytes-each
-    add-bytes-each-2
-    bytes-each-requires
+    mul-each
+    add-each
+    sub-each
+    add-each-2
+    each-requires
     same-length
     returns-2)

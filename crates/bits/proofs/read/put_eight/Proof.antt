@@ -8,20 +8,19 @@ use lib.ListN.{length, take, drop}
 use Rattle.laws.specs.Bits.{bitsOf, valueOf}
 use Rattle.laws.specs.Wrote.{Wrote}
 use Rattle.laws.proofs.WroteLaws.{wrote-then, wrote-none, wrote-one}
-use Rattle.bits.specs.Text7.{unsevens}
-use Rattle.bits.proofs.Text7Laws.{unsevens-suc}
-use Rattle.bits.proofs.WordLaws.{seven-in}
+use Rattle.bits.specs.Read.{numbers}
+use Rattle.bits.proofs.WordLaws.{numbers-suc, seven-in}
 use Rattle.bits.proofs.read.put_eight.Statement.{statement}
 use Rattle.bits.proofs.read.put_eight.Tie as tie
 
 abbrev Inv-loop : tie.InvT-loop
-Inv-loop out₀ to v k₀ left₀ out k left = (left ≤ 8) × (k ≡ to + (8 - left)) × (length out ≡ length out₀) × Wrote out₀ to (unsevens (8 - left) (bitsOf 56 v)) out k
+Inv-loop out₀ to v k₀ left₀ out k left = (left ≤ 8) × (k ≡ to + (8 - left)) × (length out ≡ length out₀) × Wrote out₀ to (numbers 7 (8 - left) (bitsOf 56 v)) out k
 
 abbrev μ-loop : tie.MeasureT-loop
 μ-loop out₀ to v k₀ left₀ out k left = left
 
 loop-holds : tie.Need-loop-holds Inv-loop μ-loop
-unfolding unsevens
+unfolding numbers
 loop-holds c = (search needs, search needs, search needs, wrote-none)
 
 sub-left : tie.Need-sub-left Inv-loop μ-loop
@@ -54,7 +53,7 @@ loop-again c =
     let b = bitsOf 56 (a .v) in
     let e : 8 - j ≡ suc i = omega arith in
     let x : valueOf (take 7 (drop (i * 7) b)) ≡ c .low .result = seven-in i j (a .v) (omega arith) ∙ sym (c .low .ensures) in
-    (search needs, search needs, search needs, rw (e, unsevens-suc i b, x) (wrote-then (at-loop .loop .inv .3) wrote-one))
+    (search needs, search needs, search needs, rw (e, numbers-suc 7 i b, x) (wrote-then (at-loop .loop .inv .3) wrote-one))
 
 same-length : tie.Need-same-length Inv-loop μ-loop
 same-length c = search needs

@@ -11,7 +11,8 @@ use denote.Ref.{now}
 use Rattle.laws.specs.Bits.{odd, unpack}
 use Rattle.laws.proofs.BitLaws.{num-lt, odd-num}
 use Rattle.laws.proofs.ByteLaws.{length-unpack}
-use Rattle.bits.specs.Text7.{unsevens, text7Of, text7Next, text7Left}
+use Rattle.bits.specs.Read.{numbers}
+use Rattle.bits.specs.Text7.{text7Of, text7Next, text7Left}
 use Rattle.bits.specs.declared.read.Got.the-variants.{Next}
 use Rattle.bits.proofs.Text7Laws.{text7-none, text7-some, end-le}
 use Rattle.bits.proofs.read.text7.Statement.{statement}
@@ -61,7 +62,7 @@ returns-2 c =
     let end = c .before .before .before .before .before .end-of in
     let wrote = c .before .before .sevens .ensures in
     let last : odd (got .result) ≡ getD b (length b - 1) false = rw (got .ensures, length-unpack s) (odd-num (getD b (length s * 8 - 1) false)) in
-    let e : text7Of b (a .at) ≡ some (unsevens (n .result) (drop (a .at) b)) =
+    let e : text7Of b (a .at) ≡ some (numbers 7 (n .result) (drop (a .at) b)) =
     rw (n .ensures, end .ensures, last)
     (text7-some b (a .at) (omega (arith, length-unpack s, c .before .before .before .before .before .before .before .if1 .left))) in
     (rw e (ap Next (wrote .next-is)), rw e (wrote .stored))

@@ -10,7 +10,7 @@ use borrow.Fn.PlainCycle.{Measures, is, falls, and}
 use Rattle.texts.proofs.number.put_number.Reads as put-number
 use Rattle.texts.proofs.number.put_number.Kinds as put-number-kinds
 use Rattle.texts.proofs.number.+put_number.Lts-put_number as put-number-lts
-use Rattle.bits.proofs.write.byte.Reads as byte-reads
+use Rattle.bits_write.proofs.byte.Reads as byte-reads
 use Rattle.texts.proofs.number.+put_number.{statement}
 use Rattle.texts.proofs.number.+put_number.Tie.{close}
 

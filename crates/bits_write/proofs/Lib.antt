@@ -1,0 +1,4 @@
+pub mod BlockLaws
+pub mod Text7Laws
+pub mod WordLaws
+pub mod WriteLaws

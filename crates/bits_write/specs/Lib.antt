@@ -1,0 +1,2 @@
+pub mod Text7
+pub mod Write
