@@ -1,6 +1,6 @@
 -- Every coded message has at most 5,000 bytes, and its first byte is below 80.
 -- Assumes nothing.
-use mathlib.Core.Path.{_≡_, refl}
+use mathlib.Core.Path.{_≡_, refl, sym}
 use mathlib.Core.Bool.{Bool, true, false, _&&_}
 use mathlib.Core.List.{List, [], _∷_, _++_}
 use mathlib.Core.Option.{Option, none, some, Option·some-injective}
@@ -17,6 +17,7 @@ use Rattle.laws.proofs.Cases.{by-test, from-some}
 use Rattle.bits_write.specs.Text7.{lastOr, text7Bits}
 use Rattle.bits_write.proofs.Text7Laws.{length-text7}
 use Rattle.refusals.specs.Outcome.{Outcome, refused, answer}
+use Rattle.refusals.proofs.OutcomeLaws.{answer-not}
 use Rattle.ax25_token.specs.Token.{tokenBits}
 use Rattle.ax25_token.proofs.Sizes.{token-size}
 use Rattle.ax25_address.specs.Parse.{Parsed, parseOf, isUi, isAp, typeOf, aliasOf}
@@ -123,26 +124,17 @@ header-low command r h = by-test (eqb command Ax25Long) (λ e. rw e (ui 0x10 (om
 
 -- bits that fit 4,999 bytes, behind a header
 packed-bounds : (header typ : ℕ) (o : Outcome (List Bool)) (c : Coded) → header < 0x80 → AtMost 39992 o → packed header typ o ≡ answer c → Bounds (c .bytes)
-packed-bounds header typ (refused n) c h m e = absurd (never e)
-  where
-    never : refused n ≡ answer c → ⊥
-    never q = let z : _≡_ {A = ℕ} 0 1 = cc in omega arith
+packed-bounds header typ (refused n) c h m e = absurd (answer-not (sym e))
 packed-bounds header typ (answer b) c h m e =
     let q : header ∷ pack b ≡ c .bytes = cc in
     rw (← q) (record { fits = omega (arith, length-pack b, m b refl); first-low = h })
 
 pub four-from : {P : Type 0} (o : Option (List Bool)) (f : List Bool → Outcome Coded) (c : Coded) → orFour o f ≡ answer c → ((b : List Bool) → o ≡ some b → f b ≡ answer c → P) → P
-four-from none f c e k = absurd (never e)
-  where
-    never : _≡_ {A = Outcome Coded} (refused 4) (answer c) → ⊥
-    never q = let z : _≡_ {A = ℕ} 0 1 = cc in omega arith
+four-from none f c e k = absurd (answer-not (sym e))
 four-from (some b) f c e k = k b refl e
 
 pub three-from : {P : Type 0} (o : Option Parsed) (f : Parsed → Outcome Coded) (c : Coded) → orThree o f ≡ answer c → ((r : Parsed) → o ≡ some r → f r ≡ answer c → P) → P
-three-from none f c e k = absurd (never e)
-  where
-    never : _≡_ {A = Outcome Coded} (refused 3) (answer c) → ⊥
-    never q = let z : _≡_ {A = ℕ} 0 1 = cc in omega arith
+three-from none f c e k = absurd (answer-not (sym e))
 three-from (some r) f c e k = k r refl e
 
 -- the bits of a frame of n digipeaters and i bytes of information fit 4,999 bytes

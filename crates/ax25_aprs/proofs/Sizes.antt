@@ -20,6 +20,7 @@ use Rattle.bits.specs.Val.{valOf}
 use Rattle.bits_write.specs.Write.{topBits}
 use Rattle.bits_write.proofs.WriteLaws.{length-top}
 use Rattle.refusals.specs.Outcome.{Outcome, refused, answer}
+use Rattle.refusals.proofs.OutcomeLaws.{answer-not}
 use Rattle.ax25_token.specs.Token.{tokenBits}
 use Rattle.ax25_token.proofs.Sizes.{token-size-text}
 use Rattle.ax25_address.specs.Address.{white}
@@ -96,7 +97,7 @@ abbrev pub AtMost : ℕ → Outcome (List Bool) → Type 0
 AtMost n o = (b : List Bool) → o ≡ answer b → length b ≤ n
 
 refused-most : (n k : ℕ) → AtMost n (refused k)
-refused-most n k b e = let z : _≡_ {A = ℕ} 0 1 = cc in absurd (omega arith)
+refused-most n k b e = absurd (answer-not (sym e))
 
 pub answer-most : (n : ℕ) (a : List Bool) → length a ≤ n → AtMost n (answer a)
 answer-most n a h b e = let q : a ≡ b = cc in rw (← q) h

@@ -12,6 +12,7 @@ use borrow.Author.Tests.{lt-ltb, le-ltb, eq-eqb, ne-eqb}
 use Rattle.laws.specs.Wrote.{Wrote}
 use Rattle.laws.proofs.Cases.{pick-true, pick-false}
 use Rattle.refusals.specs.Outcome.{Outcome, refused, answer}
+use Rattle.refusals.proofs.OutcomeLaws.{answer-not}
 use Rattle.ax25_address.specs.Parse.{Parsed, parseOf, typeOf}
 use Rattle.ax25_address.specs.Record.{Seen, seen, seenOf}
 use Rattle.ax25_address.specs.Types.{Text, callLen}
@@ -60,7 +61,7 @@ module _ (command : ℕ) (d : List ℕ) where
 -- ---- the type of a message
 
 packed-type : (h t : ℕ) (o : Outcome (List Bool)) (c : Coded) → packed h t o ≡ answer c → c .typ ≡ t
-packed-type h t (refused n) c e = let z : _≡_ {A = ℕ} 0 1 = cc in absurd (omega arith)
+packed-type h t (refused n) c e = absurd (answer-not (sym e))
 packed-type h t (answer b) c e = cc
 
 code-type : (command : ℕ) (d : List ℕ) (s : Seen) → some s ≡ seenOf command (parseOf (callLen command) d) → (c : Coded) → encodeOf command d ≡ answer c → c .typ ≡ s .typ

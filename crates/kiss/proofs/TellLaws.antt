@@ -13,6 +13,7 @@ use Rattle.laws.specs.Wrote.{Wrote}
 use Rattle.laws.proofs.Cases.{by-le}
 use Rattle.laws.proofs.ListLaws.{sets-nil, take-sets}
 use Rattle.refusals.specs.Outcome.{Outcome, refused, answer}
+use Rattle.refusals.proofs.OutcomeLaws.{answer-not, same-answer, same-refusal}
 use Rattle.kiss.specs.Told.{intoWith}
 
 module _ {A B : Type 0} (bytes : A → List ℕ) (value : A → B) (out : List ℕ) where
@@ -52,15 +53,6 @@ pub record Handed {A B : Type 0} (bytes : A → List ℕ) (value : A → B) (o :
   pub fits-in : length (bytes it) ≤ room
   pub beside : b ≡ value it
   pub front : take n t ≡ bytes it
-
-answer-not : {C : Type 0} {x : C} {m : ℕ} → _≡_ {A = Outcome C} (answer x) (refused m) → ⊥
-answer-not q = let z : _≡_ {A = ℕ} 0 1 = cc in omega arith
-
-same-answer : {C : Type 0} {x y : C} → _≡_ {A = Outcome C} (answer x) (answer y) → x ≡ y
-same-answer q = cc
-
-same-refusal : {C : Type 0} {n m : ℕ} → _≡_ {A = Outcome C} (refused n) (refused m) → n ≡ m
-same-refusal q = cc
 
 module _ {A B : Type 0} (bytes : A → List ℕ) (value : A → B) (out t : List ℕ) where
   pub told-answer : (o : Outcome A) (n : ℕ) (b : B) → (answer (n, b), t) ≡ intoWith bytes value o out → Handed bytes value o (length out) t n b

@@ -1,14 +1,28 @@
--- The cases of an answer with a lent output.
+-- Answers and refusals are apart; the cases of an answer with a lent output.
 -- Assumes nothing.
 use mathlib.Core.Path.{_≡_, refl, sym}
 use mathlib.Core.List.{List}
 use Prim.Native.Nat.{ℕ, _≤_, _<_}
+use native.Mathlib.Omega.{arith}
 use lib.ListN.{length}
 use lib.Seq.{sets}
 use borrow.Author.Tests.{lt-ltb, le-ltb}
 use Rattle.laws.specs.Pick.{pick}
 use Rattle.laws.specs.Wrote.{Wrote}
 use Rattle.refusals.specs.Outcome.{Outcome, refused, answer, Left, left, into}
+
+-- an answer is no refusal
+pub answer-not : {A : Type 0} {x : A} {n : ℕ} → _≡_ {A = Outcome A} (answer x) (refused n) → ⊥
+answer-not e = let z : _≡_ {A = ℕ} 0 1 = cc in omega arith
+
+-- two answers, or two refusals, that are the same
+pub same-answer : {A : Type 0} {x y : A} → _≡_ {A = Outcome A} (answer x) (answer y) → x ≡ y
+same-answer e = cc
+
+pub same-refusal : {A : Type 0} {n m : ℕ} → _≡_ {A = Outcome A} (refused n) (refused m) → n ≡ m
+same-refusal e = cc
+
+-- ---- with a lent output
 
 pub into-refused : (n : ℕ) (out : List ℕ) → into (refused n) out ≡ left (refused n) out
 unfolding into

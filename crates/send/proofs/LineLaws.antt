@@ -22,7 +22,7 @@ use Rattle.refusals.specs.declared.Answer.the-variants.{Refused, Bytes}
 use Rattle.refusals.specs.Outcome.{Outcome, refused, answer, accepted, outcomeOf, left, into}
 use Rattle.refusals.specs.Limits.{fieldOk}
 use Rattle.refusals.proofs.LimitLaws.{field-low, field-high}
-use Rattle.refusals.proofs.OutcomeLaws.{into-refused, into-short, into-fits}
+use Rattle.refusals.proofs.OutcomeLaws.{answer-not, same-answer, same-refusal, into-refused, into-short, into-fits}
 use Rattle.frame.specs.Frame.{frameOf, buildOf}
 use Rattle.frame.proofs.FrameLaws.{frame-length, build-accepted}
 use Rattle.sender.specs.Send.{ceiling, countOf, countFor, fragmentOf, sendOf}
@@ -46,15 +46,6 @@ use Rattle.send.specs.declared.line.Sent.the-variants as sent
 use Rattle.send.specs.Line.{plain, marker, framedOf, linedBy, framesOf, dataText, spelledText, lineText, Sends}
 
 -- ---- an answer with a lent output
-
-answer-not : {C : Type 0} {x : C} {m : ℕ} → _≡_ {A = Outcome C} (answer x) (refused m) → ⊥
-answer-not q = let z : _≡_ {A = ℕ} 0 1 = cc in omega arith
-
-same-answer : {C : Type 0} {x y : C} → _≡_ {A = Outcome C} (answer x) (answer y) → x ≡ y
-same-answer q = cc
-
-same-refusal : {C : Type 0} {n m : ℕ} → _≡_ {A = Outcome C} (refused n) (refused m) → n ≡ m
-same-refusal q = cc
 
 -- n bytes were written: the call's, at the front of the output t
 pub record Handed (o : Outcome (List ℕ)) (t : List ℕ) (n : ℕ) : Type 0 where
