@@ -99,10 +99,10 @@ pub record Passed (b : List Bool) (i : List ℕ) : Type 0 where
   pub within : bits + 2 ≤ length b
   pub size : length i ≤ 22 + letters + 8 * ((length b - (bits + 8)) / 7)
 
-abbrev partyOf : List ℕ → List ℕ → List ℕ → List ℕ → List ℕ
+abbrev pub partyOf : List ℕ → List ℕ → List ℕ → List ℕ → List ℕ
 partyOf a c d t = ascii "}" ++ (a ++ (ascii ">" ++ (c ++ (ascii ",TCPIP," ++ (d ++ (ascii "*:" ++ t))))))
 
-party-size : (a c d t : List ℕ) → length (partyOf a c d t) ≡ 11 + (length a + length c + length d) + length t
+pub party-size : (a c d t : List ℕ) → length (partyOf a c d t) ≡ 11 + (length a + length c + length d) + length t
 party-size a c d t = simp length-append (omega arith)
 
 pub third-room : (l : ℕ) (b : List Bool) (i : List ℕ) → readThird l b ≡ some i → Passed b i

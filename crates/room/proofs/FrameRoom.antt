@@ -45,10 +45,11 @@ unfolding pick
 ui-size true = omega arith
 ui-size false = omega arith
 
--- n digipeaters behind two addresses, and information of k bytes: the sums
+-- the sums: addresses of eight bytes, n of them digipeaters, control and PID, and information of k bytes from e of b bits
 short-sum : (n k b e : ℕ) → n ≤ 8 → b ≤ 39992 → 3 * n + 26 + 2 * e ≤ 2 * b → k ≤ 11 + 8 * ((e - 6) / 7) → (n + 2) * 8 + 2 + k ≤ mostDecoded
 short-sum n k b e few long h s = omega arith
 
+-- with 7 or 8 digipeaters the text has at most 5,705 words of seven bits
 third-sum : (n k b e bits letters : ℕ) → n ≤ 8 → b ≤ 39992 → 3 * n + 30 + 2 * e ≤ 2 * b → 18 ≤ bits → 3 * letters ≤ 2 * bits + 18 → bits + 2 ≤ e
     → k ≤ 22 + letters + 8 * ((e - (bits + 8)) / 7) → (n + 2) * 8 + 2 + k ≤ mostDecoded
 third-sum n k b e bits letters few long h three each within s =

@@ -3,7 +3,7 @@
 use mathlib.Core.Path.{_≡_, refl, ap}
 use mathlib.Core.Bool.{Bool, true, false}
 use mathlib.Core.List.{List, [], _∷_}
-use mathlib.Core.Option.{none, some, Option·none-ne-some, Option·some-injective}
+use mathlib.Core.Option.{some, Option·none-ne-some, Option·some-injective}
 use Prim.Native.Nat.{ℕ, zero, suc, _+_, _*_, _≤_}
 use native.Mathlib.Omega.{arith}
 use lib.ListN.{length, drop, length-drop}
@@ -18,7 +18,7 @@ use Rattle.ax25_address.proofs.SizeLaws.{split-is}
 use Rattle.ax25.specs.Encode.{typeWidth}
 use Rattle.ax25.specs.Decode.{nameAt, known, Head, readTokens, readAlias, readAliased, readDigis, readHead}
 use Rattle.ax25_decode.proofs.ReaderLaws.{tokens-count, alias-count}
-use Rattle.room.proofs.TokenRoom.{take-left, token-room}
+use Rattle.room.proofs.TokenRoom.{let-through, take-left, token-room}
 
 -- ---- digipeaters
 
@@ -71,15 +71,11 @@ type-room false b t e = let h = take-left 1 b t e in (omega (arith, h .0), λ k.
 
 -- ---- all of it
 
+-- n calls; three halves of a bit for each digipeater, 12 bits for destination and source, and the type
 pub record Headed (n : ℕ) (b : List Bool) (p : Head × List Bool) : Type 0 where
   pub count : length (p .0 .digis) ≡ n
   pub head : 3 * n + 26 + 2 * length (p .1) ≤ 2 * length b
   pub third-head : p .0 .typ ≡ ThirdParty → 3 * n + 30 + 2 * length (p .1) ≤ 2 * length b
-
-passed : {A : Type 0} (t : Bool) (x y : A) → pick t (some x) none ≡ some y → x ≡ y
-unfolding pick
-passed true x y e = Option·some-injective x y e
-passed false x y e = absurd (Option·none-ne-some y e)
 
 pub head-room : (l n : ℕ) (b : List Bool) (p : Head × List Bool) → n ≤ 8 → readHead l n b ≡ some p → Headed n b p
 unfolding readHead
@@ -96,7 +92,7 @@ head-room l n b p few e =
     let y = token-room l (d .1) s es in
     let z = digis-room l (starts (ascii "AP") (d .0)) n (s .1) v few ev in
     let u = type-room (starts (ascii "AP") (d .0)) (v .1) t et in
-    rw (← passed (known (t .0)) (record { dest = d .0; src = s .0; digis = v .0; heard = h .0; typ = t .0 }, t .1) p m)
+    rw (← let-through (known (t .0)) (record { dest = d .0; src = s .0; digis = v .0; heard = h .0; typ = t .0 }, t .1) p m .1)
     (record {
       count = z .0;
       head = omega (arith, w .0, length-drop n b, u .0);

@@ -6,3 +6,4 @@ pub mod FrameRoom
 pub mod DecodeRoom
 pub mod OwnRefusals
 pub mod Room
+pub mod Reached

@@ -19,7 +19,7 @@ use Rattle.room.proofs.OwnRefusals.{code-own, decode-own}
 
 -- what is coded, whatever it is, has at most so many bytes
 pub coded-fits : (command : ℕ) (d : List ℕ) (c : Coded) → codeOf command d ≡ answer c → length (c .bytes) ≤ mostMessage
-coded-fits command d c e = code-bounds command d c e .fits
+coded-fits command d c e = omega (arith, code-bounds command d c e .fits)
 
 -- a call whose own refusals are not 6 and whose answers fit the output does not answer 6
 never-short : {A B : Type 0} (bytes : A → List ℕ) (value : A → B) (o : Outcome A) (most : ℕ) → NotShort o → ((a : A) → o ≡ answer a → length (bytes a) ≤ most)

@@ -13,7 +13,7 @@ use Rattle.laws.specs.Bits.{valueOf}
 use Rattle.laws.specs.Pick.{pick}
 use Rattle.laws.specs.Text.{ascii}
 use Rattle.laws.proofs.BitLaws.{value-take-lt}
-use Rattle.laws.proofs.Cases.{by-test, and-left, and-right, from-some}
+use Rattle.laws.proofs.Cases.{and-left, and-right, from-some}
 use Rattle.laws.proofs.TextLaws.{below, at-each}
 use Rattle.bits.specs.Read.{letter, takeBits, takeText}
 use Rattle.bits.specs.Val.{valOf}
@@ -24,19 +24,23 @@ use Rattle.ax25_token.proofs.Sizes.{suffix-size}
 
 -- ---- bits that are taken
 
+-- a value that a test let through
+pub let-through : {A : Type 0} (t : Bool) (x y : A) → pick t (some x) none ≡ some y → (t ≡ true) × (x ≡ y)
+unfolding pick
+let-through true x y e = (refl, Option·some-injective x y e)
+let-through false x y e = absurd (Option·none-ne-some y e)
+
 pub take-left : (n : ℕ) (b : List Bool) (p : ℕ × List Bool) → takeBits n b ≡ some p → (length b ≡ n + length (p .1)) × (p .0 < 2 ^ n)
-unfolding takeBits pick
+unfolding takeBits
 take-left n b p e =
-    by-test (leb n (length b))
-    (λ t. rw (← Option·some-injective (valueOf (take n b), drop n b) p (rw t at e)) (omega (arith, leb-true n (length b) t, length-drop n b), value-take-lt b n))
-    (λ t. absurd (Option·none-ne-some p (rw t at e)))
+    let k = let-through (leb n (length b)) (valueOf (take n b), drop n b) p e in
+    rw (← k .1) (omega (arith, leb-true n (length b) (k .0), length-drop n b), value-take-lt b n)
 
 text-left : (n : ℕ) (b : List Bool) (p : ℕ × List Bool) → wideNumber n b ≡ some p → length b ≡ n + length (p .1)
-unfolding wideNumber takeText pick
+unfolding wideNumber takeText
 text-left n b p e =
-    by-test (leb n (length b))
-    (λ t. rw (← Option·some-injective (valOf (map letter (take n b)), drop n b) p (rw t at e)) (omega (arith, leb-true n (length b) t, length-drop n b)))
-    (λ t. absurd (Option·none-ne-some p (rw t at e)))
+    let k = let-through (leb n (length b)) (valOf (map letter (take n b)), drop n b) p e in
+    rw (← k .1) (omega (arith, leb-true n (length b) (k .0), length-drop n b))
 
 -- ---- letters: six bits each
 
@@ -71,13 +75,16 @@ letters-room strict (suc n) b p e =
 
 -- ---- the forms
 
--- k bits and more are taken; two bytes for three bits behind six bytes; one byte for two bits behind six
+-- the letters that are read from b, and the bits that are left
 pub record Took (k : ℕ) (b : List Bool) (p : List ℕ × List Bool) : Type 0 where
+  -- at least k bits are taken
   pub left : k + length (p .1) ≤ length b
+  -- six letters, and two for every three bits beyond k: WIDE2-11 has so many
   pub letters : 3 * length (p .0) + 2 * (k + length (p .1)) ≤ 2 * length b + 18
+  -- eight letters, and one for every two bits beyond k + 3: this is less for long calls
   pub long : 2 * length (p .0) + (k + length (p .1)) ≤ length b + 13
 
--- the names are so short
+-- the name of a form is so short that its letters are as above
 short : Form → Bool
 short (spelled x) = true
 short (paired n w) = leb (length n) 4 && leb (length n) (2 + w)
