@@ -1,0 +1,185 @@
+-- The refusals of the coder and of the decoder, before a lent output is looked at, are never 6.
+-- Assumes nothing.
+use mathlib.Core.Path.{_≡_, refl, ap}
+use mathlib.Core.Bool.{Bool, true, false, _&&_}
+use mathlib.Core.List.{List, [], _∷_, _++_}
+use mathlib.Core.Option.{Option, none, some}
+use Prim.Native.Nat.{ℕ, _/_, _%_}
+use lib.ListN.{length, drop, take}
+use lib.Dec.{eqb, ltb}
+use borrow.Author.Tests.{eqb-false}
+use Rattle.laws.specs.Bits.{bitsOf, unpack}
+use Rattle.laws.specs.Pick.{pick}
+use Rattle.laws.specs.Text.{isDigit}
+use Rattle.bits_write.specs.Text7.{lastOr, text7Bits}
+use Rattle.bits_write.specs.Write.{topBits}
+use Rattle.bits.specs.Val.{valOf}
+use Rattle.refusals.specs.Outcome.{Outcome, refused, answer}
+use Rattle.refusals.proofs.OutcomeLaws.{answer-not, same-refusal}
+use Rattle.ax25_token.specs.Token.{tokenBits}
+use Rattle.ax25_address.specs.Classify.{oneOf}
+use Rattle.ax25_address.specs.Parse.{Parsed, parseOf, typeOf}
+use Rattle.ax25_address.specs.Types.{Text, Binary, Position, TimestampedPosition, Message, ThirdParty, Generic, callLen}
+use Rattle.ax25_aprs.specs.Coded.{_then_, orRefused}
+use Rattle.ax25_aprs.specs.Text.{textBits}
+use Rattle.ax25_aprs.specs.LatLon.{placeBits, latlonBits}
+use Rattle.ax25_aprs.specs.Body.{callOf, timestampedBits, messageBits, bodyBits}
+use Rattle.ax25_aprs.specs.Third.{Field, ended, full, short, collectOf, callPart, callField, innerBits, lastField, pathField, thirdBits}
+use Rattle.ax25.specs.Decode.{readFrame}
+use Rattle.ax25.specs.Encode.{headerOf, bodyBytes, headBits, infoBits, frameBits, orThree, orFour, packed, codeParsed, encodeOf}
+use Rattle.kiss.specs.Codec.{codeOf, orSeven, decodeMessage, decodeSome, decodeOf}
+use Rattle.room.specs.Room.{NotShort}
+
+-- ---- the ways an outcome is made
+
+module _ {A : Type 0} where
+  no : (n : ℕ) → eqb n 6 ≡ false → NotShort {A = A} (refused n)
+  no n h e = eqb-false n 6 h (same-refusal e)
+
+  yes : (a : A) → NotShort (answer a)
+  yes a e = answer-not e
+
+  either : (t : Bool) {o p : Outcome A} → NotShort o → NotShort p → NotShort (pick t o p)
+  unfolding pick
+  either true f g = f
+  either false f g = g
+
+both : (o p : Outcome (List Bool)) → NotShort o → NotShort p → NotShort (o then p)
+both (refused n) p f g = f
+both (answer a) (refused n) f g = g
+both (answer a) (answer b) f g = yes (a ++ b)
+
+four : (o : Option (List Bool)) → NotShort (orRefused 4 o)
+four none = no 4 refl
+four (some b) = yes b
+
+five : (o : Option (List Bool)) → NotShort (orRefused 5 o)
+five none = no 5 refl
+five (some b) = yes b
+
+three : {A : Type 0} → NotShort {A = A} (refused 3)
+three = no 3 refl
+
+-- ---- bodies
+
+latlon-own : (s : List ℕ) → NotShort (latlonBits s)
+unfolding latlonBits
+latlon-own s = either (ltb (length s) 19) three (both (answer (placeBits s)) (orRefused 5 (textBits true (drop 19 s))) (yes (placeBits s)) (five (textBits true (drop 19 s))))
+
+timestamped-own : (s : List ℕ) → NotShort (timestampedBits s)
+unfolding timestampedBits
+timestamped-own s = both (answer (topBits 20 (valOf (take 6 s)))) (latlonBits (drop 7 s)) (yes (topBits 20 (valOf (take 6 s)))) (latlon-own (drop 7 s))
+
+module _ (l : ℕ) where
+  message-own : (s : List ℕ) → NotShort (messageBits l s)
+  unfolding messageBits
+  message-own s = both _ _ (four (tokenBits l (callOf (take 9 s)))) (five (textBits false (drop 10 s)))
+
+  body-own : (typ : ℕ) (s : List ℕ) → NotShort (bodyBits typ l s)
+  unfolding bodyBits
+  body-own typ s =
+      either (eqb typ Text) (five (textBits false s))
+      (either (eqb typ Position) (latlon-own s)
+      (either (eqb typ TimestampedPosition) (timestamped-own s) (message-own s)))
+
+  -- ---- the third party
+
+  inner-own : (d : List ℕ) → NotShort (innerBits l d)
+  unfolding innerBits
+  inner-own [] = three
+  inner-own (c ∷ []) = three
+  inner-own (c ∷ x ∷ d) =
+      either (oneOf c 0x21 0x3D && isDigit x) (typed 0 Position (x ∷ d))
+      (either (oneOf c 0x40 0x2F && isDigit x) (typed 1 TimestampedPosition (x ∷ d))
+      (either (eqb c 0x3A) (typed 2 Message (x ∷ d)) (typed 3 Text (c ∷ x ∷ d))))
+    where
+      typed : (k typ : ℕ) (s : List ℕ) → NotShort (answer (bitsOf 2 k) then bodyBits typ l s)
+      typed k typ s = both (answer (bitsOf 2 k)) (bodyBits typ l s) (yes (bitsOf 2 k)) (body-own typ s)
+
+  call-own : (s : List ℕ) → NotShort (callPart l s)
+  unfolding callPart
+  call-own s = four (tokenBits l (callOf s))
+
+  field-own : (f : Field) (d : List ℕ) (next : List ℕ → Outcome (List Bool)) → ((e : List ℕ) → NotShort (next e)) → NotShort (callField l f d next)
+  unfolding callField
+  field-own short d next h = three
+  field-own (ended s r) d next h = both (callPart l s) (next r) (call-own s) (h r)
+  field-own (full s) d next h = both (callPart l s) (next d) (call-own s) (h d)
+
+  last-own : (f : Field) (d : List ℕ) → NotShort (lastField l f d)
+  unfolding lastField
+  last-own short d = three
+  last-own (ended s r) d = both (callPart l s) (innerBits l (drop 1 r)) (call-own s) (inner-own (drop 1 r))
+  last-own (full s) d = both (callPart l s) (innerBits l d) (call-own s) (inner-own d)
+
+  path-own : (f : Field) → NotShort (pathField l f)
+  unfolding pathField
+  path-own short = three
+  path-own (ended s r) = last-own (collectOf 0x2A 10 r) r
+  path-own (full s) = no 5 refl
+
+  third-own : (d : List ℕ) → NotShort (thirdBits l d)
+  unfolding thirdBits
+  third-own d = field-own (collectOf 0x3E 10 d) d _ (λ e. field-own (collectOf 0x2C 10 e) e _ (λ f. path-own (collectOf 0x2C 14 f)))
+
+  -- ---- the frame
+
+  info-own : (r : Parsed) (typ : ℕ) (head : List Bool) → NotShort (infoBits l r typ head)
+  unfolding infoBits
+  info-own r typ head =
+      either (eqb typ Text) (yes (text7Bits (length head) (lastOr false head) (bodyBytes r)))
+      (either (eqb typ Binary) (yes (unpack (bodyBytes r)))
+      (either (eqb typ ThirdParty) (third-own (drop 1 (r .info))) (body-own typ (drop 1 (r .info)))))
+
+  frame-own : (r : Parsed) (typ : ℕ) (head : List Bool) → NotShort (frameBits l r typ head)
+  unfolding frameBits
+  frame-own r typ head = both (answer head) (infoBits l r typ head) (yes head) (info-own r typ head)
+
+packed-own : (header typ : ℕ) (o : Outcome (List Bool)) → NotShort o → NotShort (packed header typ o)
+packed-own header typ (refused n) h e = let q : n ≡ 6 = cc in h (ap refused q)
+packed-own header typ (answer b) h e = yes _ e
+
+parsed-own : (command : ℕ) (r : Parsed) → NotShort (codeParsed command r)
+unfolding codeParsed
+parsed-own command r = by (headBits (callLen command) r (typeOf command r))
+  where
+    by : (o : Option (List Bool)) → NotShort (orFour o (λ head. packed (headerOf command r) (typeOf command r) (frameBits (callLen command) r (typeOf command r) head)))
+    by none = no 4 refl
+    by (some head) = packed-own (headerOf command r) (typeOf command r) (frameBits (callLen command) r (typeOf command r) head) (frame-own (callLen command) r (typeOf command r) head)
+
+encode-own : (command : ℕ) (d : List ℕ) → NotShort (encodeOf command d)
+unfolding encodeOf
+encode-own command d = by (parseOf (callLen command) d)
+  where
+    by : (o : Option Parsed) → NotShort (orThree o (codeParsed command))
+    by none = three
+    by (some r) = parsed-own command r
+
+-- ---- the calls
+
+pub code-own : (command : ℕ) (d : List ℕ) → NotShort (codeOf command d)
+unfolding codeOf
+code-own command d =
+    either (ltb 2 command) (no 1 refl)
+    (either (ltb 4999 (length d)) (no 2 refl)
+    (either (eqb command Generic) (yes _) (encode-own command d)))
+
+seven-own : (command : ℕ) (o : Option (List ℕ)) → NotShort (orSeven command o)
+seven-own command none = no 7 refl
+seven-own command (some d) = yes (record { command = command; bytes = d })
+
+message-frame-own : (header : ℕ) (rest : List ℕ) → NotShort (decodeMessage header rest)
+unfolding decodeMessage
+message-frame-own header rest =
+    let k = header / 16 % 4 in
+    either (eqb k 3) (no 7 refl)
+    (either (eqb k 2) (yes _) (seven-own k (readFrame (callLen k) header (unpack rest))))
+
+some-own : (m : List ℕ) → NotShort (decodeSome m)
+unfolding decodeSome
+some-own [] = no 7 refl
+some-own (header ∷ rest) = message-frame-own header rest
+
+pub decode-own : (m : List ℕ) → NotShort (decodeOf m)
+unfolding decodeOf
+decode-own m = either (ltb 5000 (length m)) (no 2 refl) (some-own m)

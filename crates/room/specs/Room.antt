@@ -1,0 +1,17 @@
+-- The most bytes that the coder and the decoder answer, as the C header has them: "An output with the most bytes is never refused as too short."
+-- Assumes nothing.
+use mathlib.Core.Path.{_≡_}
+use Prim.Native.Nat.{ℕ}
+use Rattle.refusals.specs.Outcome.{Outcome, refused}
+
+-- "decoded data: the output of xara_decode"
+abbrev pub mostDecoded : ℕ
+mostDecoded = 45764
+
+-- "a message: the output of xara_encode"
+abbrev pub mostMessage : ℕ
+mostMessage = 5000
+
+-- not 6: "lent output shorter than the answer"
+abbrev pub NotShort : {A : Type 0} → Outcome A → Type 0
+NotShort o = o ≡ refused 6 → ⊥

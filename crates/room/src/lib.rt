@@ -1,0 +1,1 @@
+// The most bytes that the coder and the decoder answer. Definitions and proofs, no code.
