@@ -8,15 +8,15 @@ use lib.ListN.{length}
 use Rattle.laws.specs.Pick.{pick}
 use Rattle.laws.specs.Text.{ascii, between}
 use Rattle.laws.proofs.Cases.{by-test, by-le}
-use Rattle.laws.proofs.TrimLaws.{between-yes, between-above}
+use Rattle.laws.proofs.TrimLaws.{between-below, between-yes, between-above}
 use Rattle.texts.specs.Hex.{hexByte, hexOf}
 use Rattle.texts.specs.Show.{shownByte, shown}
-use Rattle.texts.proofs.HexLaws.{between-below, flat-length}
+use Rattle.texts.proofs.HexLaws.{flat-length}
 
 module _ (x : ℕ) where
   pub shown-low : x < 0x20 → shownByte x ≡ ascii "<0x" ++ (hexByte x ++ ascii ">")
   unfolding shownByte pick
-  shown-low h = rw (between-below x 0x20 0x7E h)
+  shown-low h = rw (between-below 0x20 0x7E x h)
 
   pub shown-high : 0x7E < x → shownByte x ≡ ascii "<0x" ++ (hexByte x ++ ascii ">")
   unfolding shownByte pick
