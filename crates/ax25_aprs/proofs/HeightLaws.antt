@@ -8,16 +8,12 @@ use Prim.Native.Nat.{ℕ, suc, _≤_, _<_}
 use native.Mathlib.Omega.{arith}
 use lib.ListN.{length, getD, drop}
 use lib.Seq.{drop-cons}
-use borrow.Author.Tests.{lt-leb, eq-eqb, ne-eqb}
+use borrow.Author.Tests.{eq-eqb, ne-eqb}
 use Rattle.laws.specs.Pick.{pick}
-use Rattle.laws.specs.Text.{between, isDigit}
-use Rattle.laws.proofs.TrimLaws.{between-yes, between-above}
+use Rattle.laws.specs.Text.{isDigit}
+use Rattle.laws.proofs.TrimLaws.{between-below, between-yes, between-above}
 use Rattle.bits.specs.Val.{valOf}
 use Rattle.ax25_aprs.specs.Text.{allDigits, unsigned, noPlus}
-
-pub between-below : (a e c : ℕ) → c < a → between a e c ≡ false
-unfolding between
-between-below a e c h = rw (lt-leb a c h)
 
 -- ---- byte by byte
 

@@ -9,6 +9,7 @@ use lines::field::all_hex;
 use lines::field::call_of;
 use lines::field::field;
 use lines::field::fields;
+use lines::field::pieces;
 use receiver::Fresh;
 use receiver::Push;
 use receiver::Pushed;
@@ -21,16 +22,27 @@ struct Step {
     receiver: Reassembler,
 }
 
-// history MASK CALL CALL ..: a new receiver, and calls in order; where the mask is refused, the refusal stands for them
+// history MASK CALL CALL ..: a new receiver, and one call or more in order; where the mask is refused, the refusal stands for them
 pub fn history(line: &[u8]) -> Outcome {
+    if fields(line) < 3 {
+        return Outcome::Bad;
+    }
     let mut mask = [0u8; 1];
     if !all_hex(field(line, 1), &mut mask) {
         return Outcome::Bad;
     }
     match Reassembler::with_crc_mask(mask[0]) {
-        Fresh::Refused(n) => same_refusal(field(line, 2), n),
+        Fresh::Refused(n) => refused(line, n),
         Fresh::Ready(receiver) => calls(line, receiver),
     }
+}
+
+// The mask is refused, and nothing stands behind the refusal.
+fn refused(line: &[u8], n: u8) -> Outcome {
+    if fields(line) != 3 {
+        return Outcome::Bad;
+    }
+    same_refusal(field(line, 2), n)
 }
 
 // The receiver's store. The contract gives only the length, so that no caller's proof unfolds the array.
@@ -67,6 +79,9 @@ fn call(receiver: Reassembler, space: &mut [u8], text: &[u8]) -> Step {
             outcome: Outcome::Equal,
             receiver: receiver.reset(),
         };
+    }
+    if pieces(text, b'=') != 2 {
+        return bad(receiver);
     }
     hear(receiver, space, piece(text, 0, b'='), piece(text, 1, b'='))
 }

@@ -16,6 +16,10 @@ use Rattle.laws.proofs.Cases.{by-test}
 -- ---- a range
 
 module _ (a e c : ℕ) where
+  pub between-below : c < a → between a e c ≡ false
+  unfolding between
+  between-below h = rw (lt-leb a c h)
+
   pub between-yes : a ≤ c → c ≤ e → between a e c ≡ true
   unfolding between
   between-yes h k = rw (le-leb a c h, le-leb c e k)

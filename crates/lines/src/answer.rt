@@ -1,7 +1,8 @@
 // A recorded answer, a field or a piece of one, against ours.
 use crate::field::hex;
+use crate::field::numeral;
+use crate::field::pieces;
 use texts::number::Number;
-use texts::number::decimal;
 use texts::part::piece;
 
 // What comes of a line: the answers are equal, they differ, or the line is not understood.
@@ -33,7 +34,7 @@ pub fn same_number(text: &[u8], v: u64) -> Outcome {
     if is_none(text) {
         return Outcome::Differ;
     }
-    let Number::Is(w) = decimal(text) else {
+    let Number::Is(w) = numeral(text) else {
         return Outcome::Bad;
     };
     verdict(v == w)
@@ -44,7 +45,7 @@ pub fn no_number(text: &[u8]) -> Outcome {
     if is_none(text) {
         return Outcome::Equal;
     }
-    match decimal(text) {
+    match numeral(text) {
         Number::Is(_) => Outcome::Differ,
         Number::None => Outcome::Bad,
     }
@@ -90,6 +91,11 @@ fn is_word(text: &[u8], word: &[u8]) -> bool {
     check::same(piece(text, 0, b':'), word)
 }
 
+// Whether an answer has so many pieces, with a colon between each two.
+fn has(text: &[u8], n: usize) -> bool {
+    pieces(text, b':') == n
+}
+
 // Whether the recorded call was refused.
 pub fn is_refusal(text: &[u8]) -> bool {
     is_word(text, b"refused")
@@ -99,6 +105,9 @@ pub fn is_refusal(text: &[u8]) -> bool {
 pub fn same_refusal(text: &[u8], n: u8) -> Outcome {
     if !is_refusal(text) {
         return Outcome::Differ;
+    }
+    if !has(text, 2) {
+        return Outcome::Bad;
     }
     same_number(piece(text, 1, b':'), n as u64)
 }
@@ -123,6 +132,9 @@ pub fn same_written(text: &[u8], out: &[u8], n: usize) -> Outcome {
 pub fn same_done(text: &[u8], store: &[u8], n: usize) -> Outcome {
     if !is_word(text, b"done") {
         return Outcome::Differ;
+    }
+    if !has(text, 2) {
+        return Outcome::Bad;
     }
     same_first(piece(text, 1, b':'), store, n)
 }
@@ -149,6 +161,9 @@ pub fn same_marked(text: &[u8], v: u64, out: &[u8], n: usize) -> Outcome {
     if is_refusal(text) {
         return Outcome::Differ;
     }
+    if !has(text, 2) {
+        return Outcome::Bad;
+    }
     let first = same_number(piece(text, 0, b':'), v);
     both(first, same_first(piece(text, 1, b':'), out, n))
 }
@@ -157,6 +172,9 @@ pub fn same_marked(text: &[u8], v: u64, out: &[u8], n: usize) -> Outcome {
 pub fn same_three(text: &[u8], u: u64, v: u64, w: u64) -> Outcome {
     if is_refusal(text) {
         return Outcome::Differ;
+    }
+    if !has(text, 3) {
+        return Outcome::Bad;
     }
     let first = same_number(piece(text, 0, b':'), u);
     let second = same_number(piece(text, 1, b':'), v);

@@ -18,12 +18,12 @@ pub fn field(line: &[u8], k: usize) -> &[u8] {
     piece(line, k, b' ')
 }
 
-// How many fields a line has: one more than blanks. No line is long enough for the count to wrap.
-pub fn fields(line: &[u8]) -> usize {
+// How many pieces a byte parts a text into: one more than it stands there. No text is long enough for the count to wrap.
+pub fn pieces(s: &[u8], b: u8) -> usize {
     let mut n: usize = 1;
     let mut i: usize = 0;
-    while i < line.len() {
-        if line[i] == b' ' {
+    while i < s.len() {
+        if s[i] == b {
             n = std::num::wrapping_add_usize(n, 1);
         }
         i += 1;
@@ -31,9 +31,24 @@ pub fn fields(line: &[u8]) -> usize {
     n
 }
 
+// How many fields a line has.
+pub fn fields(line: &[u8]) -> usize {
+    pieces(line, b' ')
+}
+
 // The last field, which has the answer.
 pub fn last(line: &[u8]) -> &[u8] {
     field(line, std::num::wrapping_sub_usize(fields(line), 1))
+}
+
+// The number that a text spells, as it is recorded: with no zero in front.
+pub fn numeral(text: &[u8]) -> Number {
+    if 1 < text.len() {
+        if text[0] == b'0' {
+            return Number::None;
+        }
+    }
+    decimal(text)
 }
 
 // Puts the numbers behind the kind into `out`, as many as it has room for. False where a field there is no number, or
@@ -44,7 +59,7 @@ pub fn numbers(line: &[u8], count: usize, out: &mut [u64]) -> bool {
     }
     let mut i: usize = 0;
     while i < out.len() {
-        let Number::Is(v) = decimal(field(line, i + 1)) else {
+        let Number::Is(v) = numeral(field(line, i + 1)) else {
             return false;
         };
         out[i] = v;
@@ -53,12 +68,27 @@ pub fn numbers(line: &[u8], count: usize, out: &mut [u64]) -> bool {
     true
 }
 
-// Puts the bytes that a text spells, two hexadecimal digits each or `-` for none, at the start of `out`.
+// Whether no byte of a text is above F, as every small letter is.
+fn is_capital(text: &[u8]) -> bool {
+    let mut i: usize = 0;
+    while i < text.len() {
+        if b'F' < text[i] {
+            return false;
+        }
+        i += 1;
+    }
+    true
+}
+
+// Puts the bytes that a text spells, two capital hexadecimal digits each or `-` for none, at the start of `out`.
 pub fn hex(text: &[u8], out: &mut [u8]) -> Bytes
     ensures { λ r. ⌜ r .n ≤ length (now (out .exit)) ⌝ }
 {
     if check::same(text, b"-") {
         return Bytes { good: true, n: 0 };
+    }
+    if !is_capital(text) {
+        return Bytes { good: false, n: 0 };
     }
     let Read::Bytes(n) = read_hex(text, out) else {
         return Bytes { good: false, n: 0 };
@@ -145,8 +175,8 @@ pub fn call_of(text: &[u8], out: &mut [u8]) -> Given
 {
     let read = hex(piece(text, 2, b':'), out);
     let size = read.n;
-    let good = read.good;
-    let Number::Is(n) = decimal(piece(text, 1, b':')) else {
+    let good = read.good && pieces(text, b':') == 3;
+    let Number::Is(n) = numeral(piece(text, 1, b':')) else {
         return Given {
             good: false,
             n: 0,

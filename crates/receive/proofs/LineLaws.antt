@@ -2,33 +2,37 @@
 -- Assumes nothing.
 use mathlib.Core.Path.{_≡_, refl, sym, ap, _∙_}
 use mathlib.Core.List.{List, [], _∷_, _++_}
-use Prim.Native.Nat.{ℕ, _≤_, _<_}
+use Prim.Native.Nat.{ℕ, _≤_}
 use native.Mathlib.Omega.{arith}
 use lib.ListN.{length, take}
 use borrow.Author.Tests.{lt-ltb, le-ltb, eq-eqb, ne-eqb}
+use Rattle.laws.specs.Bits as bits
 use Rattle.laws.specs.Pick.{pick}
 use Rattle.laws.specs.Text.{ascii}
 use Rattle.laws.specs.Wrote.{Wrote}
 use Rattle.laws.proofs.Cases.{pick-true, pick-false}
 use Rattle.refusals.specs.Outcome.{Outcome, refused, answer}
-use Rattle.kiss.specs.Codec.{Decoded}
+use Rattle.kiss.specs.Codec.{Decoded, decodeOf}
 use Rattle.kiss.specs.Told.{decodedOf, decodeInto}
 use Rattle.kiss.specs.declared.Decoded as answered
 use Rattle.kiss.specs.declared.Decoded.the-variants as variants
+use Rattle.kiss.proofs.CodeBounds.{decode-command}
 use Rattle.kiss.proofs.TellLaws.{told-answer, told-refused}
 use Rattle.receiver.specs.Join.{After}
 use Rattle.receiver.specs.Push.{pushOf}
 use Rattle.receiver.specs.declared.Reassembler.{Reassembler}
 use Rattle.ax25_address.specs.Types.{callLen}
-use Rattle.texts.specs.Hex.{hexOf, bytesOf, readOf}
-use Rattle.texts.specs.Say.{lineRoom, wordOf, unreadLine, readOr}
+use Rattle.texts.specs.Hex.{bytesOf, readOf}
+use Rattle.texts.specs.Part.{before, behind}
+use Rattle.texts.specs.Say.{lineRoom, wordOf, spelledOf, unreadLine, readOr}
 use Rattle.texts.specs.Show.{shown}
 use Rattle.texts.specs.declared.hex.Read.{Read}
 use Rattle.texts.specs.declared.hex.Read.the-variants.{Bytes, NoDigit, Odd, TooLong}
+use Rattle.texts.proofs.BackLaws.{above, before-past, line-end}
 use Rattle.texts.proofs.PartLaws.{piece-length}
 use Rattle.texts.proofs.SayLaws.{unread-by}
 use Rattle.monitor.specs.Monitor.{monitorOf}
-use Rattle.receive.specs.Line.{digitsOf, readableOf, within, heardText, lineText, leftBy, lineLeft}
+use Rattle.receive.specs.Line.{readableOf, doneText, within, decodedText, heardText, lineText, leftBy, lineLeft}
 
 -- ---- a finished message
 
@@ -36,23 +40,32 @@ pub word-few : (command : ℕ) → length (wordOf command) ≤ 17
 unfolding wordOf
 word-few command = piece-length 124 command (ascii "ax25|long|generic")
 
-module _ (d : List ℕ) where
-  pub digits-none : length d ≡ 0 → digitsOf d ≡ []
-  unfolding digitsOf
-  digits-none h = pick-true _ _ (eq-eqb (length d) 0 h)
+module _ (d : List ℕ) (command : ℕ) where
+  pub readable-generic : command ≡ 2 → readableOf command d ≡ shown d
+  unfolding readableOf
+  readable-generic h = pick-true _ _ (eq-eqb command 2 h)
 
-  pub digits-some : (length d ≡ 0 → ⊥) → digitsOf d ≡ (32 ∷ []) ++ hexOf d
-  unfolding digitsOf
-  digits-some h = pick-false _ _ (ne-eqb (length d) 0 h)
+  pub readable-frame : (command ≡ 2 → ⊥) → readableOf command d ≡ monitorOf (callLen command) d
+  unfolding readableOf
+  readable-frame h = pick-false _ _ (ne-eqb command 2 h)
 
-  module _ (command : ℕ) where
-    pub readable-generic : command ≡ 2 → readableOf command d ≡ shown d
-    unfolding readableOf
-    readable-generic h = pick-true _ _ (eq-eqb command 2 h)
+-- the first line is `done ` and the line that `send` reads back (`line-back` in send/proofs/LineLaws)
+module _ (command : ℕ) (d : List ℕ) (known : command ≤ 2) (h : bits.Bytes d) where
+  first-line : before 10 (doneText command d) ≡ ascii "done " ++ spelledOf command d
+  unfolding doneText
+  first-line =
+      before-past 31 10 (omega arith) (ascii "done ") _ (unfold above in refl)
+      ∙ ap (λ (t : List ℕ). ascii "done " ++ t) (line-end command known d h ((32 ∷ 32 ∷ []) ++ (readableOf command d ++ (10 ∷ []))))
 
-    pub readable-frame : (command ≡ 2 → ⊥) → readableOf command d ≡ monitorOf (callLen command) d
-    unfolding readableOf
-    readable-frame h = pick-false _ _ (ne-eqb command 2 h)
+  pub done-line : behind 32 (before 10 (doneText command d)) ≡ spelledOf command d
+  unfolding behind pick
+  done-line = rw first-line
+
+-- as every message that is decoded has such a command
+pub done-back : (m : List ℕ) (r : Decoded) → decodeOf m ≡ answer r → bits.Bytes (r .bytes)
+    → behind 32 (before 10 (decodedText (decodeOf m))) ≡ spelledOf (r .command) (r .bytes)
+unfolding decodedText
+done-back m r e h = rw e (done-line (r .command) (r .bytes) (decode-command m r e) h)
 
 -- n bytes were written under a command: those of the decoder's answer, for which there was room
 pub record Handed (o : Outcome Decoded) (room : ℕ) (t : List ℕ) (command n : ℕ) : Type 0 where

@@ -13,18 +13,14 @@ use Rattle.receiver.specs.Join.{After, Heard, dropped, more, done}
 use Rattle.receiver.specs.Join as join
 use Rattle.receiver.specs.Push.{pushOf}
 use Rattle.receiver.specs.declared.Reassembler.{Reassembler}
-use Rattle.texts.specs.Hex.{hexOf, bytesOf, readOf}
-use Rattle.texts.specs.Say.{lineRoom, wordOf, refusalLine, readOr}
+use Rattle.texts.specs.Hex.{bytesOf, readOf}
+use Rattle.texts.specs.Say.{lineRoom, spelledOf, refusalLine, readOr}
 use Rattle.texts.specs.Show.{shown}
 use Rattle.texts.specs.declared.hex.Read.{Read}
 use Rattle.texts.specs.declared.hex.Read.the-variants.{Bytes, NoDigit, Odd, TooLong}
 use Rattle.monitor.specs.Monitor.{monitorOf}
 
 -- ---- a finished message
-
--- a blank and the digits, where there are any
-unfoldable pub digitsOf : List ℕ → List ℕ
-digitsOf d = pick (eqb (length d) 0) [] (32 ∷ hexOf d)
 
 -- generic bytes as they are shown, frames as a monitor prints them
 unfoldable pub readableOf : ℕ → List ℕ → List ℕ
@@ -33,7 +29,7 @@ readableOf command d = pick (eqb command 2) (shown d) (monitorOf (callLen comman
 -- "done" and the line that `send` takes; then, behind two blanks, what people read
 unfoldable pub doneText : ℕ → List ℕ → List ℕ
 doneText command d =
-    ascii "done " ++ (wordOf command ++ (digitsOf d ++ ((10 ∷ 32 ∷ 32 ∷ []) ++ (readableOf command d ++ (10 ∷ [])))))
+    ascii "done " ++ (spelledOf command d ++ ((10 ∷ 32 ∷ 32 ∷ []) ++ (readableOf command d ++ (10 ∷ []))))
 
 -- 6 where there is no room for the data
 unfoldable pub within : ℕ → Outcome Decoded → Outcome Decoded

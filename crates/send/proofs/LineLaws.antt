@@ -2,17 +2,18 @@
 -- Assumes nothing.
 use mathlib.Core.Path.{_≡_, refl, sym, ap, _∙_}
 use mathlib.Core.Bool.{Bool, true, false}
-use mathlib.Core.List.{List, [], _∷_, _++_}
-use Prim.Native.Nat.{ℕ, zero, suc, _+_, _-_, _*_, _/_, _≤_, _<_}
+use mathlib.Core.List.{List, [], _∷_}
+use Prim.Native.Nat.{ℕ, suc, _+_, _-_, _≤_, _<_}
 use native.Mathlib.Nat.{zero-add, div-le-self}
 use native.Mathlib.Omega.{arith}
-use lib.ListN.{length, take, length-append}
+use lib.ListN.{length, take}
 use lib.Seq.{sets}
 use lib.Dec.{ltb}
 use Rattle.laws.specs.Wrote.{Wrote}
 use borrow.Author.Tests.{not-false, lt-ltb, le-ltb, eq-eqb, ne-eqb}
+use Rattle.laws.specs.Bits as bits
 use Rattle.laws.specs.Pick.{pick}
-use Rattle.laws.specs.Text.{ascii}
+use Rattle.laws.specs.Text.{ascii, same}
 use Rattle.laws.proofs.Cases.{pick-true, pick-false, by-test, by-le}
 use Rattle.laws.proofs.ListLaws.{take-sets}
 use Rattle.laws.proofs.TextLaws.{eq-same, ne-same}
@@ -37,9 +38,11 @@ use Rattle.kiss.specs.Told.{encodedOf, codeInto}
 use Rattle.kiss.proofs.CodeBounds.{code-bounds}
 use Rattle.kiss.proofs.TellLaws as Coding
 use Rattle.kiss.proofs.TellLaws.{told-answer, told-refused}
-use Rattle.texts.specs.Hex.{hexOf}
-use Rattle.texts.specs.Part.{before, behind, pieceOf}
-use Rattle.texts.specs.Say.{commandOf, refusalLine, errorLine}
+use Rattle.texts.specs.Hex.{hexOf, bytesOf, readOf}
+use Rattle.texts.specs.Part.{before, behind, pieceOf, withoutCr}
+use Rattle.texts.specs.Say.{commandOf, spelledOf, refusalLine, errorLine, readOr, lineRoom}
+use Rattle.texts.specs.declared.hex.Read.the-variants as read
+use Rattle.texts.proofs.BackLaws.{Spells, spelled-back}
 use Rattle.texts.proofs.ShowLaws.{hex-length}
 use Rattle.send.specs.declared.line.Sent.{Sent}
 use Rattle.send.specs.declared.line.Sent.the-variants as sent
@@ -250,3 +253,42 @@ module _ (field mask number : ℕ) (line : List ℕ) where
       pub line-spelled : command ≤ 2 → lineText field mask number line ≡ spelledText field mask number command text
       line-spelled h =
           others (pick-false _ _ (le-ltb 2 (commandOf (before 32 line)) (rw is-command at h)) ∙ rw (← is-command, ← x))
+
+-- ---- a line that is read as a command and bytes
+
+-- neither no word nor `text` names a command
+no-word : 3 ≡ commandOf (before 32 [])
+unfolding commandOf before same pick
+no-word = refl
+
+no-text : 3 ≡ commandOf (ascii "text")
+unfolding commandOf same pick
+no-text = refl
+
+module _ (field mask number command : ℕ) (d : List ℕ) (known : command ≤ 2) where
+  spelled-data : (s : List ℕ) → readOf lineRoom s ≡ read.Bytes (length d) → bytesOf s ≡ d → spelledText field mask number command s ≡ dataText field mask command d
+  unfolding spelledText readOr
+  spelled-data s e f = rw (e, f)
+
+  word-here : (line : List ℕ) → before 32 line ≡ pieceOf 32 0 line
+  unfolding pieceOf
+  word-here line = refl
+
+  line-data : (line : List ℕ) → Spells line command d → lineText field mask number line ≡ dataText field mask command d
+  line-data [] r = absurd (omega (arith, known, no-word ∙ r .0))
+  line-data (x ∷ s) r =
+      line-spelled field mask number (x ∷ s)
+      (λ q. omega arith)
+      (before 32 (x ∷ s))
+      (behind 32 (x ∷ s))
+      (word-here (x ∷ s))
+      refl
+      (λ q. omega (arith, known, no-text ∙ sym (ap commandOf q) ∙ r .0))
+      command
+      (sym (r .0))
+      known
+      ∙ spelled-data (behind 32 (x ∷ s)) (r .1) (r .2)
+
+  -- what `receive` writes behind `done ` (`done-line` in receive/proofs/LineLaws) is the command and the bytes again
+  pub line-back : bits.Bytes d → length d ≤ lineRoom → lineText field mask number (withoutCr (spelledOf command d)) ≡ dataText field mask command d
+  line-back h few = line-data (withoutCr (spelledOf command d)) (spelled-back command d known h few)

@@ -1,21 +1,20 @@
 -- Digits and their values, and texts of them from the front.
 -- Assumes nothing.
 use mathlib.Core.Path.{_≡_, refl, ap, sym, _∙_}
-use mathlib.Core.Bool.{Bool, true, false, _&&_}
+use mathlib.Core.Bool.{true, false, _&&_}
 use mathlib.Core.List.{List, [], _∷_, _++_, append-assoc, append-nil, flatMap}
 use Prim.Native.Nat.{ℕ, zero, suc, _+_, _-_, _*_, _/_, _%_, _≤_, _<_}
 use native.Mathlib.Nat.{not-suc-le-zero, le-of-suc-le-suc, suc-mul}
 use native.Mathlib.Numerals.{add-one}
 use native.Mathlib.Omega.{arith}
 use lib.ListN.{length, getD, take, drop, length-append, drop-of-length-le}
-use lib.Seq.{sets, drop-cons, take-suc, take-all}
+use lib.Seq.{sets, drop-cons, take-suc}
 use lib.Dec.{eqb, ltb}
-use borrow.Author.Tests.{le-leb, lt-leb, lt-ltb, le-ltb, ltb-true, ltb-false, eq-eqb, ne-eqb}
+use borrow.Author.Tests.{lt-ltb, le-ltb, ltb-true, ltb-false, eq-eqb, ne-eqb}
 use Rattle.laws.specs.Pick.{pick}
-use Rattle.laws.specs.Text.{between}
 use Rattle.laws.proofs.Cases.{by-test, pick-true, pick-false, and-left, and-right}
 use Rattle.laws.proofs.ListLaws.{take-sets}
-use Rattle.laws.proofs.TrimLaws.{between-yes, between-above}
+use Rattle.laws.proofs.TrimLaws.{between-below, between-yes, between-above}
 use Rattle.texts.specs.Hex.{hexValue, isHex, bytesOf, readOf, leftBy}
 use Rattle.texts.specs.declared.hex.Read.{Read}
 use Rattle.texts.specs.declared.hex.Read.the-variants.{Bytes, NoDigit, Odd, TooLong}
@@ -46,13 +45,9 @@ module _ (f : ℕ → List ℕ) where
 -- ---- the value of a digit
 
 module _ (c : ℕ) where
-  pub between-below : (a e : ℕ) → c < a → between a e c ≡ false
-  unfolding between
-  between-below a e h = rw (lt-leb a c h)
-
   pub value-low : c < 48 → hexValue c ≡ 16
   unfolding hexValue pick
-  value-low h = rw (between-below 48 57 h, between-below 65 70 (omega arith), between-below 97 102 (omega arith))
+  value-low h = rw (between-below 48 57 c h, between-below 65 70 c (omega arith), between-below 97 102 c (omega arith))
 
   pub value-digit : 48 ≤ c → c ≤ 57 → hexValue c ≡ c - 48
   unfolding hexValue pick
@@ -60,7 +55,7 @@ module _ (c : ℕ) where
 
   pub value-middle : 57 < c → c < 65 → hexValue c ≡ 16
   unfolding hexValue pick
-  value-middle h k = rw (between-above 48 57 c (omega arith) h, between-below 65 70 k, between-below 97 102 (omega arith))
+  value-middle h k = rw (between-above 48 57 c (omega arith) h, between-below 65 70 c k, between-below 97 102 c (omega arith))
 
   pub value-capital : 65 ≤ c → c ≤ 70 → hexValue c ≡ c - 55
   unfolding hexValue pick
@@ -68,7 +63,7 @@ module _ (c : ℕ) where
 
   pub value-upper : 70 < c → c < 97 → hexValue c ≡ 16
   unfolding hexValue pick
-  value-upper h k = rw (between-above 48 57 c (omega arith) (omega arith), between-above 65 70 c (omega arith) h, between-below 97 102 k)
+  value-upper h k = rw (between-above 48 57 c (omega arith) (omega arith), between-above 65 70 c (omega arith) h, between-below 97 102 c k)
 
   pub value-small : 97 ≤ c → c ≤ 102 → hexValue c ≡ c - 87
   unfolding hexValue pick

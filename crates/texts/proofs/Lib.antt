@@ -1,3 +1,4 @@
+pub mod BackLaws
 pub mod HexLaws
 pub mod NumberLaws
 pub mod PartLaws

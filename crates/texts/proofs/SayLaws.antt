@@ -1,16 +1,19 @@
--- The command of a word, test by test, and a text that spells no bytes.
+-- The command of a word, test by test, the digits of bytes, and a text that spells no bytes.
 -- Assumes nothing.
 use mathlib.Core.Path.{_≡_, refl, sym, _∙_}
-use mathlib.Core.List.{List, [], _∷_}
+use mathlib.Core.List.{List, [], _∷_, _++_}
 use mathlib.Core.Logic.{⊎-elim}
 use Prim.Native.Nat.{ℕ}
 use native.Mathlib.Omega.{arith}
+use lib.ListN.{length}
+use borrow.Author.Tests.{eq-eqb, ne-eqb}
 use denote.Enum.Declared.{tagOf}
 use types.Run.{OneOf}
-use Rattle.laws.specs.Text.{ascii, same}
+use Rattle.laws.specs.Text.{ascii}
 use Rattle.laws.proofs.Cases.{pick-true, pick-false}
 use Rattle.laws.proofs.TextLaws.{eq-same, ne-same}
-use Rattle.texts.specs.Say.{commandOf, unreadLine, readOr}
+use Rattle.texts.specs.Hex.{hexOf}
+use Rattle.texts.specs.Say.{commandOf, digitsOf, unreadLine, readOr}
 use Rattle.texts.specs.declared.hex.Read.{Read}
 use Rattle.texts.specs.declared.hex.Read.the-variants.{Bytes, NoDigit, Odd, TooLong}
 use Rattle.texts.proofs.hex.Read.{the-type}
@@ -37,6 +40,15 @@ module _ (w : List ℕ) where
       command-none e =
           sym (pick-false _ _ (ne-same w (ascii "ax25") no-ax25)
           ∙ (pick-false _ _ (ne-same w (ascii "long") no-long) ∙ pick-false _ _ (ne-same w (ascii "generic") e)))
+
+module _ (d : List ℕ) where
+  pub digits-none : length d ≡ 0 → digitsOf d ≡ []
+  unfolding digitsOf
+  digits-none h = pick-true _ _ (eq-eqb (length d) 0 h)
+
+  pub digits-some : (length d ≡ 0 → ⊥) → digitsOf d ≡ (32 ∷ []) ++ hexOf d
+  unfolding digitsOf
+  digits-some h = pick-false _ _ (ne-eqb (length d) 0 h)
 
 -- what is left where a text spells no bytes: the tags of the other answers
 pub not-bytes : (r : Read) → OneOf (1 ∷ 2 ∷ 3 ∷ []) (tagOf the-type r) → (n : ℕ) → r ≡ Bytes n → ⊥

@@ -1,22 +1,22 @@
 -- How long a text is that shows bytes.
 -- Assumes nothing.
 use mathlib.Core.Path.{_≡_, refl}
-use mathlib.Core.List.{List, [], _∷_, _++_}
+use mathlib.Core.List.{List, [], _∷_, _++_, flatMap}
 use Prim.Native.Nat.{ℕ, _*_, _≤_, _<_}
 use native.Mathlib.Omega.{arith}
 use lib.ListN.{length}
 use Rattle.laws.specs.Pick.{pick}
 use Rattle.laws.specs.Text.{ascii, between}
-use Rattle.laws.proofs.Cases.{by-test, by-le}
-use Rattle.laws.proofs.TrimLaws.{between-yes, between-above}
+use Rattle.laws.proofs.Cases.{by-test}
+use Rattle.laws.proofs.TrimLaws.{between-below, between-yes, between-above}
 use Rattle.texts.specs.Hex.{hexByte, hexOf}
 use Rattle.texts.specs.Show.{shownByte, shown}
-use Rattle.texts.proofs.HexLaws.{between-below, flat-length}
+use Rattle.texts.proofs.HexLaws.{flat-length}
 
 module _ (x : ℕ) where
   pub shown-low : x < 0x20 → shownByte x ≡ ascii "<0x" ++ (hexByte x ++ ascii ">")
   unfolding shownByte pick
-  shown-low h = rw (between-below x 0x20 0x7E h)
+  shown-low h = rw (between-below 0x20 0x7E x h)
 
   pub shown-high : 0x7E < x → shownByte x ≡ ascii "<0x" ++ (hexByte x ++ ascii ">")
   unfolding shownByte pick
@@ -36,6 +36,7 @@ unfolding shown
 shown-length s = flat-length shownByte 6 shown-few s
 
 -- two digits a byte
-pub hex-length : (s : List ℕ) → length (hexOf s) ≤ length s * 2
-unfolding hexOf hexByte
-hex-length s = flat-length hexByte 2 (λ x. omega arith) s
+pub hex-length : (s : List ℕ) → length (hexOf s) ≡ length s * 2
+unfolding hexOf hexByte flatMap
+hex-length [] = refl
+hex-length (x ∷ s) = omega (arith, hex-length s)

@@ -2,8 +2,11 @@
 -- Assumes nothing.
 use mathlib.Core.List.{List, [], _∷_, _++_}
 use Prim.Native.Nat.{ℕ}
+use lib.ListN.{length}
+use lib.Dec.{eqb}
 use Rattle.laws.specs.Pick.{pick}
 use Rattle.laws.specs.Text.{ascii, same}
+use Rattle.texts.specs.Hex.{hexOf}
 use Rattle.texts.specs.Number.{numeralOf}
 use Rattle.texts.specs.Part.{pieceOf}
 use Rattle.texts.specs.declared.hex.Read.{Read}
@@ -19,6 +22,14 @@ commandOf w =
     pick (same w (ascii "ax25")) 0
     (pick (same w (ascii "long")) 1
     (pick (same w (ascii "generic")) 2 3))
+
+-- a blank and the digits of bytes, where there are any
+unfoldable pub digitsOf : List ℕ → List ℕ
+digitsOf d = pick (eqb (length d) 0) [] (32 ∷ hexOf d)
+
+-- the line of bytes under a command, which `receive` writes behind `done ` and `send` takes
+unfoldable pub spelledOf : ℕ → List ℕ → List ℕ
+spelledOf command d = wordOf command ++ digitsOf d
 
 -- document 01's refusal table in short: the reason of a number
 unfoldable pub reasonOf : ℕ → List ℕ

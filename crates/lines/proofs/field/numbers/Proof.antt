@@ -28,8 +28,8 @@ add-field c = search needs
 field-requires : tie.Need-field-requires Inv-loop μ-loop
 field-requires c κs = search needs
 
-decimal-requires : tie.Need-decimal-requires Inv-loop μ-loop
-decimal-requires c κs = search needs
+numeral-requires : tie.Need-numeral-requires Inv-loop μ-loop
+numeral-requires c κs = search needs
 
 enum-known-v : tie.Need-enum-known-v Inv-loop μ-loop
 enum-known-v c = search needs
@@ -75,7 +75,7 @@ numbers-spec =
     loop-holds
     add-field
     field-requires
-    decimal-requires
+    numeral-requires
     enum-known-v
     enum-told
     same-length

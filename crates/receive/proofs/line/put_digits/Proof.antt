@@ -4,8 +4,8 @@ use borrow.Author.Needs.{needs}
 use native.Mathlib.Omega.{arith}
 use denote.Ref.{now}
 use Rattle.laws.proofs.WroteLaws.{wrote-then, wrote-none}
+use Rattle.texts.proofs.SayLaws.{digits-none, digits-some}
 use Rattle.texts.proofs.ShowLaws.{hex-length}
-use Rattle.receive.proofs.LineLaws.{digits-none, digits-some}
 use Rattle.receive.proofs.line.put_digits.Statement.{statement}
 use Rattle.receive.proofs.line.put_digits.Tie as tie
 

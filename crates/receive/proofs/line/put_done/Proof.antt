@@ -3,6 +3,7 @@
 use borrow.Author.Needs.{needs}
 use native.Mathlib.Omega.{arith}
 use Rattle.laws.proofs.WroteLaws.{wrote-then}
+use Rattle.texts.specs.Say.{spelledOf}
 use Rattle.receive.specs.Line.{doneText}
 use Rattle.receive.proofs.LineLaws.{word-few}
 use Rattle.receive.proofs.line.put_done.Statement.{statement}
@@ -38,16 +39,15 @@ same-length : tie.Need-same-length
 same-length c = search needs
 
 returns : tie.Need-returns
-unfolding doneText
+unfolding doneText spelledOf
 returns c =
     let readable = c .before .before .before .before .before .before in
     let line = readable .before .before .before .before in
     let digits = line .before .before .before .before .before in
     let word = digits .before .before .before .before in
     wrote-then (word .before .before .before .before .copy .ensures)
-    (wrote-then (word .put-word .ensures)
-    (wrote-then (digits .put-digits .ensures .0)
-    (wrote-then (line .copy2 .ensures) (wrote-then (readable .put-readable .ensures .0) (c .before .before .byte .ensures)))))
+    (wrote-then (wrote-then (word .put-word .ensures) (digits .put-digits .ensures .0))
+    (wrote-then (line .copy2 .ensures) (wrote-then (readable .put-readable .ensures .0) (c .before .before .byte .ensures))))
 
 pub put-done-spec : {M : Type 1} → statement M
 put-done-spec =
