@@ -23,7 +23,7 @@ use Rattle.bits.specs.Val.{valOf}
 use Rattle.bits_write.specs.Write.{topBits}
 use Rattle.bits.proofs.ValLaws.{val-lt, digits-val}
 use Rattle.ax25_address.specs.Address.{blank}
-use Rattle.ax25_aprs.specs.Words.{word, wordAt}
+use Rattle.ax25_aprs.specs.Words.{words, word, wordAt}
 use Rattle.ax25_aprs.specs.Text.{joined, allDigits, unsigned, noPlus, altitude, altitudeBits, altitudeAt, frontBits, frontSize, textFrom, textBits, padded, altitudeText, codeText, codeSpan, readFrom, readText}
 use Rattle.ax25_aprs.proofs.WordLaws.{word-at, word-some, word-size}
 
@@ -207,15 +207,18 @@ pub altitude-no : (b : List Bool) → altitudeText false b ≡ []
 unfolding altitudeText pick
 altitude-no b = refl
 
--- two bytes a bit at most
-one-length : (p : Bool) (c : ℕ) → c ≡ 1 → (b : List Bool) → length (word 1 ++ altitudeText p b) ≤ (7 + codeSpan p c) * 2
+first-word : length (word 1) ≡ 5
+unfolding word words
+first-word = refl
+
+-- eight bytes at most, or ten where fourteen bits are skipped
+one-length : (p : Bool) (c : ℕ) → c ≡ 1 → (b : List Bool) → 7 * length (word 1 ++ altitudeText p b) ≤ 56 + codeSpan p c
 unfolding altitudeText pick
 one-length true c e b =
-    rw (length-append (word 1) (padded 4 (valueOf (take 14 b))))
-    (omega (arith, word-size 1 (omega arith) (omega arith), length-padded 4 (valueOf (take 14 b)), span-altitude c e))
-one-length false c e b = rw (length-append (word 1) []) (omega (arith, word-size 1 (omega arith) (omega arith)))
+    rw (length-append (word 1) (padded 4 (valueOf (take 14 b)))) (omega (arith, first-word, length-padded 4 (valueOf (take 14 b)), span-altitude c e))
+one-length false c e b = rw (length-append (word 1) []) (omega (arith, first-word))
 
-pub code-length : (p : Bool) (c : ℕ) (b : List Bool) → length (codeText p c b) ≤ (7 + codeSpan p c) * 2
+pub code-length : (p : Bool) (c : ℕ) (b : List Bool) → 7 * length (codeText p c b) ≤ 56 + codeSpan p c
 code-length p c b =
     by-eq c 0
     (λ e. rw (code-zero p c b e) (omega arith))

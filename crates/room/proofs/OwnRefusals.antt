@@ -11,7 +11,6 @@ use borrow.Author.Tests.{eqb-false}
 use Rattle.laws.specs.Bits.{bitsOf, unpack}
 use Rattle.laws.specs.Pick.{pick}
 use Rattle.laws.specs.Text.{isDigit}
-use Rattle.bits_write.specs.Text7.{lastOr, text7Bits}
 use Rattle.bits_write.specs.Write.{topBits}
 use Rattle.bits.specs.Val.{valOf}
 use Rattle.refusals.specs.Outcome.{Outcome, refused, answer}
@@ -26,7 +25,7 @@ use Rattle.ax25_aprs.specs.LatLon.{placeBits, latlonBits}
 use Rattle.ax25_aprs.specs.Body.{callOf, timestampedBits, messageBits, bodyBits}
 use Rattle.ax25_aprs.specs.Third.{Field, ended, full, short, collectOf, callPart, callField, innerBits, lastField, pathField, thirdBits}
 use Rattle.ax25.specs.Decode.{readFrame}
-use Rattle.ax25.specs.Encode.{headerOf, bodyBytes, headBits, infoBits, frameBits, orThree, orFour, packed, codeParsed, encodeOf}
+use Rattle.ax25.specs.Encode.{headerOf, headBits, infoBits, frameBits, orThree, orFour, packed, codeParsed, encodeOf}
 use Rattle.kiss.specs.Codec.{codeOf, orSeven, decodeMessage, decodeSome, decodeOf}
 use Rattle.room.specs.Room.{NotShort}
 
@@ -64,11 +63,13 @@ three = no 3 refl
 
 latlon-own : (s : List ℕ) → NotShort (latlonBits s)
 unfolding latlonBits
-latlon-own s = either (ltb (length s) 19) three (both (answer (placeBits s)) (orRefused 5 (textBits true (drop 19 s))) (yes (placeBits s)) (five (textBits true (drop 19 s))))
+latlon-own s = either (ltb (length s) 19) three (both (answer (placeBits s)) _ (yes (placeBits s)) (five (textBits true (drop 19 s))))
 
 timestamped-own : (s : List ℕ) → NotShort (timestampedBits s)
 unfolding timestampedBits
-timestamped-own s = both (answer (topBits 20 (valOf (take 6 s)))) (latlonBits (drop 7 s)) (yes (topBits 20 (valOf (take 6 s)))) (latlon-own (drop 7 s))
+timestamped-own s =
+    let b = topBits 20 (valOf (take 6 s)) in
+    both (answer b) (latlonBits (drop 7 s)) (yes b) (latlon-own (drop 7 s))
 
 module _ (l : ℕ) where
   message-own : (s : List ℕ) → NotShort (messageBits l s)
@@ -127,8 +128,8 @@ module _ (l : ℕ) where
   info-own : (r : Parsed) (typ : ℕ) (head : List Bool) → NotShort (infoBits l r typ head)
   unfolding infoBits
   info-own r typ head =
-      either (eqb typ Text) (yes (text7Bits (length head) (lastOr false head) (bodyBytes r)))
-      (either (eqb typ Binary) (yes (unpack (bodyBytes r)))
+      either (eqb typ Text) (yes _)
+      (either (eqb typ Binary) (yes _)
       (either (eqb typ ThirdParty) (third-own (drop 1 (r .info))) (body-own typ (drop 1 (r .info)))))
 
   frame-own : (r : Parsed) (typ : ℕ) (head : List Bool) → NotShort (frameBits l r typ head)

@@ -2,7 +2,7 @@
 -- Assumes nothing.
 use mathlib.Core.Path.{_≡_, refl}
 use mathlib.Core.Bool.{Bool, true, false}
-use mathlib.Core.List.{List, [], _∷_, _++_}
+use mathlib.Core.List.{List, [], _∷_}
 use mathlib.Core.Option.{some, Option·none-ne-some, Option·some-injective}
 use Prim.Native.Nat.{ℕ, zero, suc, _+_, _-_, _*_, _/_, _≤_}
 use native.Mathlib.Omega.{arith}
@@ -10,48 +10,20 @@ use lib.ListN.{length, take, drop, length-append}
 use borrow.Author.Tests.{le-leb, lt-leb}
 use Rattle.laws.specs.Bits.{valueOf}
 use Rattle.laws.specs.Pick.{pick}
-use Rattle.laws.proofs.Cases.{by-eq, by-le}
+use Rattle.laws.proofs.Cases.{by-le}
 use Rattle.bits_write.specs.Text7.{lastOr}
 use Rattle.bits.specs.Read.{numbers}
 use Rattle.bits.specs.Text7.{endOf, text7Of}
 use Rattle.bits.proofs.Text7Laws.{end-le}
 use Rattle.bits.proofs.WordLaws.{length-numbers}
-use Rattle.ax25_aprs.specs.Words.{words, word}
-use Rattle.ax25_aprs.specs.Text.{padded, altitudeText, codeText, codeSpan, readFrom, readText}
-use Rattle.ax25_aprs.proofs.WordLaws.{word-size}
-use Rattle.ax25_aprs.proofs.TextLaws.{length-padded, code-zero, code-one, code-word, code-none, code-self, span-altitude, span-le}
+use Rattle.ax25_aprs.specs.Text.{codeText, codeSpan, readFrom, readText}
+use Rattle.ax25_aprs.proofs.TextLaws.{span-le, code-length}
 
 -- ---- a code
 
 -- what an altitude at the end has over eight bytes for its code
 unfoldable pub extra : Bool → ℕ
 extra p = pick p 2 0
-
-first-word : length (word 1) ≡ 5
-unfolding word words
-first-word = refl
-
-one-room : (p : Bool) (c : ℕ) → c ≡ 1 → (b : List Bool) → 7 * length (word 1 ++ altitudeText p b) ≤ 56 + codeSpan p c
-unfolding altitudeText pick
-one-room true c e b =
-    rw (length-append (word 1) (padded 4 (valueOf (take 14 b)))) (omega (arith, first-word, length-padded 4 (valueOf (take 14 b)), span-altitude c e))
-one-room false c e b = rw (length-append (word 1) []) (omega (arith, first-word))
-
--- eight bytes at most, or ten where fourteen bits are skipped
-code-room : (p : Bool) (c : ℕ) (b : List Bool) → 7 * length (codeText p c b) ≤ 56 + codeSpan p c
-code-room p c b =
-    by-eq c 0
-    (λ e. rw (code-zero p c b e) (omega arith))
-    (λ z.
-    by-eq c 1
-    (λ e. rw (code-one p c b e) (one-room p c e b))
-    (λ n.
-    by-le c 9
-    (λ h. rw (code-word p c b (omega arith) h) (omega (arith, word-size c (omega arith) h)))
-    (λ h.
-    by-le c 31
-    (λ k. rw (code-none p c b h k) (omega arith))
-    (λ k. rw (code-self p c b k) (omega arith)))))
 
 span-extra : (p : Bool) (c : ℕ) → codeSpan p c ≤ 7 * extra p
 unfolding extra codeSpan pick
@@ -80,7 +52,7 @@ from-room p zero (x ∷ b) =
     by-le 6 (length b)
     (λ h.
     rw (le-leb 6 (length b) h, length-append (codeText p c (drop 6 b)) (readFrom p (6 + s) b))
-    (omega (arith, step-room (length b) (length (codeText p c (drop 6 b))) s (length (readFrom p (6 + s) b)) (extra p) h (code-room p c (drop 6 b)) (span-extra p c) (from-none p (6 + s) b) (from-room p (6 + s) b))))
+    (omega (arith, step-room (length b) (length (codeText p c (drop 6 b))) s (length (readFrom p (6 + s) b)) (extra p) h (code-length p c (drop 6 b)) (span-extra p c) (from-none p (6 + s) b) (from-room p (6 + s) b))))
     (λ h. rw (lt-leb 6 (length b) h) (omega arith))
 from-room p (suc k) (x ∷ b) = omega (arith, from-room p k b)
 
