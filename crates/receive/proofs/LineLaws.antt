@@ -5,19 +5,21 @@ use mathlib.Core.List.{List, [], _∷_, _++_}
 use Prim.Native.Nat.{ℕ, _≤_}
 use native.Mathlib.Omega.{arith}
 use lib.ListN.{length, take}
-use borrow.Author.Tests.{lt-ltb, le-ltb, eq-eqb, ne-eqb}
+use borrow.Author.Tests.{eq-eqb, ne-eqb}
 use Rattle.laws.specs.Bits as bits
 use Rattle.laws.specs.Pick.{pick}
 use Rattle.laws.specs.Text.{ascii}
 use Rattle.laws.specs.Wrote.{Wrote}
 use Rattle.laws.proofs.Cases.{pick-true, pick-false}
-use Rattle.refusals.specs.Outcome.{Outcome, refused, answer}
+use Rattle.refusals.specs.Outcome.{refused, answer}
 use Rattle.kiss.specs.Codec.{Decoded, decodeOf}
 use Rattle.kiss.specs.Told.{decodedOf, decodeInto}
 use Rattle.kiss.specs.declared.Decoded as answered
 use Rattle.kiss.specs.declared.Decoded.the-variants as variants
 use Rattle.kiss.proofs.CodeBounds.{decode-command}
-use Rattle.kiss.proofs.TellLaws.{told-answer, told-refused}
+use Rattle.kiss.proofs.TellLaws.{Handed, told-answer, told-refused}
+use Rattle.room.specs.Room.{mostDecoded}
+use Rattle.room.proofs.DecodeRoom.{decoded-fits}
 use Rattle.receiver.specs.Join.{After}
 use Rattle.receiver.specs.Push.{pushOf}
 use Rattle.receiver.specs.declared.Reassembler.{Reassembler}
@@ -32,7 +34,7 @@ use Rattle.texts.proofs.BackLaws.{above, before-past, line-end}
 use Rattle.texts.proofs.PartLaws.{piece-length}
 use Rattle.texts.proofs.SayLaws.{unread-by}
 use Rattle.monitor.specs.Monitor.{monitorOf}
-use Rattle.receive.specs.Line.{readableOf, doneText, within, decodedText, heardText, lineText, leftBy, lineLeft}
+use Rattle.receive.specs.Line.{readableOf, doneText, decodedText, heardText, lineText, leftBy, lineLeft}
 
 -- ---- a finished message
 
@@ -67,61 +69,44 @@ pub done-back : (m : List ℕ) (r : Decoded) → decodeOf m ≡ answer r → bit
 unfolding decodedText
 done-back m r e h = rw e (done-line (r .command) (r .bytes) (decode-command m r e) h)
 
--- n bytes were written under a command: those of the decoder's answer, for which there was room
-pub record Handed (o : Outcome Decoded) (room : ℕ) (t : List ℕ) (command n : ℕ) : Type 0 where
-  pub it : Decoded
-  pub is : within room o ≡ answer it
-  pub fits : length (it .bytes) ≤ room
-  pub beside : command ≡ it .command
-  pub front : take n t ≡ it .bytes
-
-module _ (o : Outcome Decoded) (out t : List ℕ) (r : answered.Decoded) (e : (decodedOf r, t) ≡ decodeInto o out) where
-  pub decode-refused : (n : ℕ) → r ≡ variants.Refused n → within (length out) o ≡ refused n
-  unfolding within
-  decode-refused n told =
-      told-refused (λ d. d .bytes) (λ d. d .command) out t o n
+-- the decoder's answer, with an output that every answer fits
+module _ (m out t : List ℕ) (r : answered.Decoded) (e : (decodedOf r, t) ≡ decodeInto (decodeOf m) out) where
+  pub decode-refused : mostDecoded ≤ length out → (n : ℕ) → r ≡ variants.Refused n → decodeOf m ≡ refused n
+  decode-refused room n told =
+      told-refused (λ d. d .bytes) (λ d. d .command) out t (decodeOf m) n
       (ap (λ (x : answered.Decoded). (decodedOf x, t)) (sym told) ∙ e)
-      (λ q. rw q)
-      (λ d q h z. rw (q, z) (pick-true _ _ (lt-ltb (length out) (length (d .bytes)) h)))
+      (λ q. q)
+      (λ d q h z. absurd (omega (arith, h, room, decoded-fits m d q)))
 
-  pub decode-bytes : (command n : ℕ) → r ≡ variants.Bytes command n → Handed o (length out) t command n
-  unfolding within
+  pub decode-bytes : (command n : ℕ) → r ≡ variants.Bytes command n → Handed (λ d. d .bytes) (λ d. d .command) (decodeOf m) (length out) t n command
   decode-bytes command n told =
-      let h =
-      told-answer (λ d. d .bytes) (λ d. d .command) out t o n command (ap (λ (x : answered.Decoded). (decodedOf x, t)) (sym told) ∙ e) in
-      record {
-        it = h .it;
-        is = ap (within (length out)) (h .is) ∙ (pick-false _ _ (le-ltb (length out) (length (h .it .bytes)) (h .fits-in)));
-        fits = h .fits-in;
-        beside = h .beside;
-        front = h .front;
-      }
+      told-answer (λ d. d .bytes) (λ d. d .command) out t (decodeOf m) n command (ap (λ (x : answered.Decoded). (decodedOf x, t)) (sym told) ∙ e)
 
 -- ---- a frame
 
 module _ (x a : After) where
   -- what a push leaves, part by part
-  pub parted : x ≡ a → {b c : List ℕ} {n : ℕ} (room : ℕ) → Wrote b 0 (heardText room (x .heard)) c n
-      → Wrote b 0 (heardText room (a .heard)) c n × (x .receiver ≡ a .receiver) × (x .store ≡ a .store)
-  parted e room w = (rw (ap (λ (y : After). y .heard) e) at w, ap (λ (y : After). y .receiver) e, ap (λ (y : After). y .store) e)
+  pub parted : x ≡ a → {b c : List ℕ} {n : ℕ} → Wrote b 0 (heardText (x .heard)) c n
+      → Wrote b 0 (heardText (a .heard)) c n × (x .receiver ≡ a .receiver) × (x .store ≡ a .store)
+  parted e w = (rw (ap (λ (y : After). y .heard) e) at w, ap (λ (y : After). y .receiver) e, ap (λ (y : After). y .store) e)
 
 pub paired : {r q : Reassembler} {s t : List ℕ} {z : Reassembler × List ℕ} → r ≡ q → s ≡ t → (q, t) ≡ z → (r, s) ≡ z
 paired e f g = rw (e, f) g
 
 -- ---- a line
 
-module _ (room field number : ℕ) (r : Reassembler) (store line : List ℕ) where
-  pub line-none : length line ≡ 0 → lineText room field number r store line ≡ []
+module _ (field number : ℕ) (r : Reassembler) (store line : List ℕ) where
+  pub line-none : length line ≡ 0 → lineText field number r store line ≡ []
   unfolding lineText
   line-none h = pick-true _ _ (eq-eqb (length line) 0 h)
 
   module _ (some : length line ≡ 0 → ⊥) (q : Read) (is : q ≡ readOf lineRoom line) where
-    pub line-unread : ((n : ℕ) → q ≡ Bytes n → ⊥) → lineText room field number r store line ≡ unreadLine number q
+    pub line-unread : ((n : ℕ) → q ≡ Bytes n → ⊥) → lineText field number r store line ≡ unreadLine number q
     unfolding lineText
     line-unread other =
         pick-false _ _ (ne-eqb (length line) 0 some) ∙ rw (← is) (unread-by number _ q other)
 
-    pub line-heard : (n : ℕ) → q ≡ Bytes n → lineText room field number r store line ≡ heardText room (pushOf r store (bytesOf line) field .heard)
+    pub line-heard : (n : ℕ) → q ≡ Bytes n → lineText field number r store line ≡ heardText (pushOf r store (bytesOf line) field .heard)
     unfolding lineText readOr
     line-heard n e = pick-false _ _ (ne-eqb (length line) 0 some) ∙ rw (← is, e)
 

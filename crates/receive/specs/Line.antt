@@ -3,7 +3,7 @@
 use mathlib.Core.List.{List, [], _∷_, _++_}
 use Prim.Native.Nat.{ℕ}
 use lib.ListN.{length}
-use lib.Dec.{eqb, ltb}
+use lib.Dec.{eqb}
 use Rattle.laws.specs.Pick.{pick}
 use Rattle.laws.specs.Text.{ascii}
 use Rattle.refusals.specs.Outcome.{Outcome, refused, answer}
@@ -31,30 +31,25 @@ unfoldable pub doneText : ℕ → List ℕ → List ℕ
 doneText command d =
     ascii "done " ++ (spelledOf command d ++ ((10 ∷ 32 ∷ 32 ∷ []) ++ (readableOf command d ++ (10 ∷ []))))
 
--- 6 where there is no room for the data
-unfoldable pub within : ℕ → Outcome Decoded → Outcome Decoded
-within room (refused n) = refused n
-within room (answer d) = pick (ltb room (length (d .bytes))) (refused 6) (answer d)
-
 unfoldable pub decodedText : Outcome Decoded → List ℕ
 decodedText (refused n) = refusalLine n
 decodedText (answer d) = doneText (d .command) (d .bytes)
 
 -- ---- what the receiver answers
 
-unfoldable pub heardText : ℕ → Heard → List ℕ
-heardText room (join.refused n) = refusalLine n
-heardText room dropped = ascii "dropped" ++ (10 ∷ [])
-heardText room more = ascii "more" ++ (10 ∷ [])
-heardText room (done n m) = decodedText (within room (decodeOf m))
+unfoldable pub heardText : Heard → List ℕ
+heardText (join.refused n) = refusalLine n
+heardText dropped = ascii "dropped" ++ (10 ∷ [])
+heardText more = ascii "more" ++ (10 ∷ [])
+heardText (done n m) = decodedText (decodeOf m)
 
 -- ---- a line
 
 -- nothing is said of an empty line
-unfoldable pub lineText : ℕ → ℕ → ℕ → Reassembler → List ℕ → List ℕ → List ℕ
-lineText room field number r store line =
+unfoldable pub lineText : ℕ → ℕ → Reassembler → List ℕ → List ℕ → List ℕ
+lineText field number r store line =
     pick (eqb (length line) 0) []
-    (readOr number (heardText room (pushOf r store (bytesOf line) field .heard)) (readOf lineRoom line))
+    (readOr number (heardText (pushOf r store (bytesOf line) field .heard)) (readOf lineRoom line))
 
 -- the receiver and the store afterwards: as they were where no frame was read
 unfoldable pub leftBy : Reassembler × List ℕ → After → Read → Reassembler × List ℕ

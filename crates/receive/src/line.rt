@@ -6,8 +6,9 @@ ghost use Rattle.laws.specs.Wrote.{Wrote};
 ghost use Rattle.kiss.specs.Codec.{decodeOf};
 ghost use Rattle.receiver.specs.Join.{heardOf};
 ghost use Rattle.receiver.specs.Push.{pushOf};
+ghost use Rattle.room.specs.Room.{mostDecoded};
 ghost use Rattle.texts.specs.Say.{digitsOf};
-ghost use Rattle.receive.specs.Line.{readableOf, doneText, within, decodedText, heardText, lineText, lineLeft};
+ghost use Rattle.receive.specs.Line.{readableOf, doneText, decodedText, heardText, lineText, lineLeft};
 use bits_write::byte;
 use bits_write::copy;
 use input::room;
@@ -68,8 +69,8 @@ fn put_done(command: u8, data: &[u8], out: &mut [u8]) -> usize
 
 // The message that is done, decoded.
 fn decoded(message: &[u8], data: &mut [u8], out: &mut [u8]) -> usize
-    requires { ⌜ length (now «data») < 2 ^ 50 ⌝ }
-    ensures { λ r. ⌜ Wrote (now (out .entry)) 0 (decodedText (within (length (now («data» .entry))) (decodeOf (now (message .entry))))) (now (out .exit)) r ⌝ }
+    requires { ⌜ (mostDecoded ≤ length (now «data»)) × (length (now «data») < 2 ^ 50) ⌝ }
+    ensures { λ r. ⌜ Wrote (now (out .entry)) 0 (decodedText (decodeOf (now (message .entry)))) (now (out .exit)) r ⌝ }
 {
     match kiss::decode(message, data) {
         Decoded::Refused(n) => put_refusal(out, 0, n),
@@ -79,8 +80,8 @@ fn decoded(message: &[u8], data: &mut [u8], out: &mut [u8]) -> usize
 
 // What the receiver answers, with a message first in its store.
 fn told(answer: Push, store: &[u8], data: &mut [u8], out: &mut [u8]) -> usize
-    requires { ⌜ length (now «data») < 2 ^ 50 ⌝ }
-    ensures { λ r. ⌜ Wrote (now (out .entry)) 0 (heardText (length (now («data» .entry))) (heardOf answer (now (store .entry)))) (now (out .exit)) r ⌝ }
+    requires { ⌜ (mostDecoded ≤ length (now «data»)) × (length (now «data») < 2 ^ 50) ⌝ }
+    ensures { λ r. ⌜ Wrote (now (out .entry)) 0 (heardText (heardOf answer (now (store .entry)))) (now (out .exit)) r ⌝ }
 {
     match answer {
         Push::Refused(n) => put_refusal(out, 0, n),
@@ -99,8 +100,8 @@ fn heard(
     data: &mut [u8],
     out: &mut [u8],
 ) -> Step
-    requires { ⌜ length (now «data») < 2 ^ 50 ⌝ }
-    ensures { λ r. ⌜ Wrote (now (out .entry)) 0 (heardText (length (now («data» .entry))) (pushOf receiver (now (store .entry)) (now (frame .entry)) field .heard)) (now (out .exit)) (r .size)
+    requires { ⌜ (mostDecoded ≤ length (now «data»)) × (length (now «data») < 2 ^ 50) ⌝ }
+    ensures { λ r. ⌜ Wrote (now (out .entry)) 0 (heardText (pushOf receiver (now (store .entry)) (now (frame .entry)) field .heard)) (now (out .exit)) (r .size)
         × (r .receiver ≡ pushOf receiver (now (store .entry)) (now (frame .entry)) field .receiver)
         × (now (store .exit) ≡ pushOf receiver (now (store .entry)) (now (frame .entry)) field .store) ⌝ }
 {
@@ -123,8 +124,8 @@ pub fn said(
     data: &mut [u8],
     out: &mut [u8],
 ) -> Step
-    requires { ⌜ length (now «data») < 2 ^ 50 ⌝ }
-    ensures { λ r. ⌜ Wrote (now (out .entry)) 0 (lineText (length (now («data» .entry))) field number receiver (now (store .entry)) (now (line .entry))) (now (out .exit)) (r .size)
+    requires { ⌜ (mostDecoded ≤ length (now «data»)) × (length (now «data») < 2 ^ 50) ⌝ }
+    ensures { λ r. ⌜ Wrote (now (out .entry)) 0 (lineText field number receiver (now (store .entry)) (now (line .entry))) (now (out .exit)) (r .size)
         × ((r .receiver, now (store .exit)) ≡ lineLeft field receiver (now (store .entry)) (now (line .entry))) ⌝ }
 {
     if line.len() == 0 {

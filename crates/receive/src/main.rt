@@ -2,8 +2,9 @@
 mod line;
 
 ghost use mathlib.Core.Path.{_≡_};
-ghost use Prim.Native.Nat.{_^_, _<_};
+ghost use Prim.Native.Nat.{_^_, _≤_, _<_};
 ghost use lib.ListN.{length};
+ghost use Rattle.room.specs.Room.{mostDecoded};
 use input::Arguments;
 use input::Stand;
 use input::mask_of;
@@ -74,7 +75,7 @@ fn lines(
     data: &mut [u8],
     out: &mut [u8],
 )
-    requires { ⌜ (length (now chunk) < 2 ^ 60) × (length (now line) < 2 ^ 60) × (length (now «data») < 2 ^ 50) ⌝ }
+    requires { ⌜ (length (now chunk) < 2 ^ 60) × (length (now line) < 2 ^ 60) × (mostDecoded ≤ length (now «data»)) × (length (now «data») < 2 ^ 50) ⌝ }
 {
     let mut stand = input::start();
     let mut state = receiver;
@@ -101,7 +102,7 @@ fn answer(
     data: &mut [u8],
     out: &mut [u8],
 ) -> Step
-    requires { ⌜ length (now «data») < 2 ^ 50 ⌝ }
+    requires { ⌜ (mostDecoded ≤ length (now «data»)) × (length (now «data») < 2 ^ 50) ⌝ }
 {
     let n = stand.len;
     if line.len() < n {

@@ -5,7 +5,6 @@ use mathlib.Core.Path.{ap, _∙_}
 use native.Mathlib.Omega.{arith}
 use lib.ListN.{length}
 use denote.Ref.{now}
-use Rattle.kiss.specs.Codec.{decodeOf}
 use Rattle.receive.specs.Line.{decodedText}
 use Rattle.receive.proofs.LineLaws.{decode-refused, decode-bytes}
 use Rattle.receive.proofs.line.decoded.Statement.{statement}
@@ -28,8 +27,8 @@ front-requires c κs = search needs
 
 put-done-requires : tie.Need-put-done-requires
 put-done-requires c κs =
-    let h = decode-bytes (decodeOf (now (c .before .before .before .before .before .before .before .before .before .before .before .before .before .args .message))) _ _ (c .before .before .before .before .before .before .before .before .decode .result) (c .before .before .before .before .before .before .before .before .decode .ensures) _ _ (c .before .before .before .before .command .given .1) in
-    omega (arith, ap length (c .before .front .ensures ∙ h .front), h .fits, c .before .before .before .before .before .before .before .before .before .before .before .before .before .pre)
+    let h = decode-bytes (now (c .before .before .before .before .before .before .before .before .before .before .before .before .before .args .message)) _ _ (c .before .before .before .before .before .before .before .before .decode .result) (c .before .before .before .before .before .before .before .before .decode .ensures) _ _ (c .before .before .before .before .command .given .1) in
+    omega (arith, ap length (c .before .front .ensures ∙ h .front), h .fits-in, c .before .before .before .before .before .before .before .before .before .before .before .before .before .pre .1)
 
 same-length : tie.Need-same-length
 same-length c = search needs
@@ -40,7 +39,7 @@ same-length-2 c = search needs
 returns : tie.Need-returns
 unfolding decodedText
 returns c =
-    let none = decode-refused (decodeOf (now (c .before .before .before .before .before .before .before .before .before .before .before .before .before .before .args .message))) _ _ (c .before .before .before .before .before .before .before .before .before .decode .result) (c .before .before .before .before .before .before .before .before .before .decode .ensures) _ (c .before .before .before .before .before .n .given .1) in
+    let none = decode-refused (now (c .before .before .before .before .before .before .before .before .before .before .before .before .before .before .args .message)) _ _ (c .before .before .before .before .before .before .before .before .before .decode .result) (c .before .before .before .before .before .before .before .before .before .decode .ensures) (c .before .before .before .before .before .before .before .before .before .before .before .before .before .before .pre .0) _ (c .before .before .before .before .before .n .given .1) in
     rw none (c .before .before .put-refusal .ensures)
 
 same-length-3 : tie.Need-same-length-3
@@ -52,7 +51,7 @@ same-length-4 c = search needs
 returns-2 : tie.Need-returns-2
 unfolding decodedText
 returns-2 c =
-    let h = decode-bytes (decodeOf (now (c .before .before .before .before .before .before .before .before .before .before .before .before .before .before .before .before .args .message))) _ _ (c .before .before .before .before .before .before .before .before .before .before .before .decode .result) (c .before .before .before .before .before .before .before .before .before .before .before .decode .ensures) _ _ (c .before .before .before .before .before .before .before .command .given .1) in
+    let h = decode-bytes (now (c .before .before .before .before .before .before .before .before .before .before .before .before .before .before .before .before .args .message)) _ _ (c .before .before .before .before .before .before .before .before .before .before .before .decode .result) (c .before .before .before .before .before .before .before .before .before .before .before .decode .ensures) _ _ (c .before .before .before .before .before .before .before .command .given .1) in
     rw (h .is) (rw (h .beside, c .before .before .before .before .front .ensures ∙ h .front) at (c .before .before .put-done .ensures))
 
 pub decoded-spec : {M : Type 1} → statement M

@@ -21,7 +21,7 @@ same-length-3 : tie.Need-same-length-3
 same-length-3 c = search needs
 
 returns : tie.Need-returns
-returns c = parted _ _ (c .before .before .before .before .before .before .before .before .before .before .before .push .ensures) _ (c .before .before .before .before .told .ensures)
+returns c = parted _ _ (c .before .before .before .before .before .before .before .before .before .before .before .push .ensures) (c .before .before .before .before .told .ensures)
 
 pub heard-spec : {M : Type 1} → statement M
 heard-spec =

@@ -15,7 +15,7 @@ use Rattle.receive.proofs.line.said.Tie as tie
 returns : tie.Need-returns
 returns c =
     let a = c .before .before .before .before .before .args in
-    (rw (line-none _ (a .field) (a .number) (a .receiver) (now (a .store)) (now (a .line)) (c .if1 .taken)) wrote-none, left-none (a .field) (a .receiver) (now (a .store)) (now (a .line)) (c .if1 .taken))
+    (rw (line-none (a .field) (a .number) (a .receiver) (now (a .store)) (now (a .line)) (c .if1 .taken)) wrote-none, left-none (a .field) (a .receiver) (now (a .store)) (now (a .line)) (c .if1 .taken))
 
 room-requires : tie.Need-room-requires
 room-requires c κs = search needs
@@ -42,7 +42,7 @@ returns-2 c =
     let some = c .before .before .before .before .before .before .before .before .before .if1 .left in
     let is : read .result ≡ readOf lineRoom (now (a .line)) = rw (← c .before .before .before .before .before .before .before .before .room .ensures) at (read .ensures .0) in
     let other = not-bytes (read .result) (c .before .before .before .before .match .keys2) in (
-      rw (line-unread _ (a .field) (a .number) (a .receiver) (now (a .store)) (now (a .line)) some (read .result) is other) (c .before .before .put-unread .ensures),
+      rw (line-unread (a .field) (a .number) (a .receiver) (now (a .store)) (now (a .line)) some (read .result) is other) (c .before .before .put-unread .ensures),
       left-unread (a .field) (a .receiver) (now (a .store)) (now (a .line)) some (read .result) is other,
     )
 
@@ -74,7 +74,7 @@ returns-3 c =
     let is : read .result ≡ readOf lineRoom (now (a .line)) = rw (← room .ensures) at (read .ensures .0) in
     let bytes = read-front lineRoom (now (a .line)) _ _ (read .result) _ is (read .ensures .1) told (sym (room .ensures)) in
     let left = rw (c .before .before .before .before .before .before .before .before .before .front .ensures ∙ bytes) at (c .before .before .before .before .before .before .heard .ensures) in (
-      rw (line-heard _ (a .field) (a .number) (a .receiver) (now (a .store)) (now (a .line)) some (read .result) is _ told) (left .0),
+      rw (line-heard (a .field) (a .number) (a .receiver) (now (a .store)) (now (a .line)) some (read .result) is _ told) (left .0),
       paired (left .1) (left .2) (left-heard (a .field) (a .receiver) (now (a .store)) (now (a .line)) some (read .result) is _ told),
     )
 
