@@ -1,5 +1,7 @@
 pub mod BlockLaws
 pub mod ReadLaws
+pub mod ReaderCalls
+pub mod ReaderMethods
 pub mod ReaderWays
 pub mod TakenLaws
 pub mod Text7Laws
