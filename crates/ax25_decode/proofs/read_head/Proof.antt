@@ -15,13 +15,13 @@ use borrow.Author.Needs.{needs}
 use Rattle.ax25_decode.proofs.read_head.Statement.{statement}
 use Rattle.ax25_decode.proofs.read_head.Tie as tie
 
-bits-in-requires : tie.Need-bits-in-requires
-bits-in-requires c κs = search needs
+remaining-at-requires : tie.Need-remaining-at-requires
+remaining-at-requires c κs = search needs
 
 returns : tie.Need-returns
 returns c =
     let a = c .before .before .before .before .args in
-    head-short (a .l) (a .n) (unpack (now (a .s))) (omega (arith, c .if1 .taken, c .before .bits-in .ensures, length-unpack (now (a .s))))
+    head-short (a .l) (a .n) (unpack (now (a .s))) (omega (arith, c .if1 .taken, c .before .remaining-at .ensures, length-unpack (now (a .s))))
 
 is-ap-requires : tie.Need-is-ap-requires
 is-ap-requires c κs = search needs
@@ -42,7 +42,7 @@ returns-2 : tie.Need-returns-2
 returns-2 c =
     let a = c .before .before .before .before .before .before .before .before .before .before .before .args in
     let b = unpack (now (a .s)) in
-    let room : a .n ≤ length b = omega (arith, c .before .before .before .before .before .before .before .if1 .left, c .before .before .before .before .before .before .before .before .bits-in .ensures, length-unpack (now (a .s))) in
+    let room : a .n ≤ length b = omega (arith, c .before .before .before .before .before .before .before .if1 .left, c .before .before .before .before .before .before .before .before .remaining-at .ensures, length-unpack (now (a .s))) in
     head-ends (a .l) (a .n) b room
     (untaken (endsBytes (a .l) (eqb (a .n) 0)) b (readEnds (a .l) (drop (a .n) b)) _ 0 _ _ (c .before .before .before .before .read-ends .ensures) (c .enum-told .given .1))
 
@@ -53,7 +53,7 @@ read-digis-requires c κs =
     let a = start .args in
     let b = unpack (now (a .s)) in
     let t = took (endsBytes (a .l) (eqb (a .n) 0)) b (readEnds (a .l) (drop (a .n) b)) _ 0 _ _ (c .before .before .before .before .before .before .read-ends .ensures) _ _ (c .before .before .p .given .1) in
-    (pre .0, pre .1, pre .2, pre .3, omega (arith, c .before .before .before .before .before .before .before .before .before .if1 .left, c .before .before .before .before .before .before .before .before .before .before .bits-in .ensures), omega (arith, ends-place (a .l) (eqb (a .n) 0) t, pre .2))
+    (pre .0, pre .1, pre .2, pre .3, omega (arith, c .before .before .before .before .before .before .before .before .before .if1 .left, c .before .before .before .before .before .before .before .before .before .before .remaining-at .ensures), omega (arith, ends-place (a .l) (eqb (a .n) 0) t, pre .2))
 
 enum-known-u : tie.Need-enum-known-u
 enum-known-u c = search needs
@@ -68,7 +68,7 @@ returns-3 : tie.Need-returns-3
 returns-3 c =
     let a = c .before .before .before .before .before .before .before .before .before .before .before .before .before .before .before .before .before .before .args in
     let b = unpack (now (a .s)) in
-    let room : a .n ≤ length b = omega (arith, c .before .before .before .before .before .before .before .before .before .before .before .before .before .before .if1 .left, c .before .before .before .before .before .before .before .before .before .before .before .before .before .before .before .bits-in .ensures, length-unpack (now (a .s))) in
+    let room : a .n ≤ length b = omega (arith, c .before .before .before .before .before .before .before .before .before .before .before .before .before .before .if1 .left, c .before .before .before .before .before .before .before .before .before .before .before .before .before .before .before .remaining-at .ensures, length-unpack (now (a .s))) in
     let p = c .before .before .before .before .before .before .before .p .given .0 .0 in
     let t = took (endsBytes (a .l) (eqb (a .n) 0)) b (readEnds (a .l) (drop (a .n) b)) _ 0 _ _ (c .before .before .before .before .before .before .before .before .before .before .before .read-ends .ensures) _ _ (c .before .before .before .before .before .before .before .p .given .1) in
     let y = c .before .before .before .before .before .before .before .before .before .before .before .before .before .is-ap in
@@ -91,7 +91,7 @@ returns-4 : tie.Need-returns-4
 returns-4 c =
     let a = c .before .before .before .before .before .before .before .before .before .before .before .before .before .before .before .before .before .before .before .before .before .before .args in
     let b = unpack (now (a .s)) in
-    let room : a .n ≤ length b = omega (arith, c .before .before .before .before .before .before .before .before .before .before .before .before .before .before .before .before .before .before .if1 .left, c .before .before .before .before .before .before .before .before .before .before .before .before .before .before .before .before .before .before .before .bits-in .ensures, length-unpack (now (a .s))) in
+    let room : a .n ≤ length b = omega (arith, c .before .before .before .before .before .before .before .before .before .before .before .before .before .before .before .before .before .before .if1 .left, c .before .before .before .before .before .before .before .before .before .before .before .before .before .before .before .before .before .before .before .remaining-at .ensures, length-unpack (now (a .s))) in
     let p = c .before .before .before .before .before .before .before .before .before .before .before .p .given .0 .0 in
     let u = c .before .before .before .before .u .given .0 .0 in
     let t = took (endsBytes (a .l) (eqb (a .n) 0)) b (readEnds (a .l) (drop (a .n) b)) _ 0 _ _ (c .before .before .before .before .before .before .before .before .before .before .before .before .before .before .before .read-ends .ensures) _ _ (c .before .before .before .before .before .before .before .before .before .before .before .p .given .1) in
@@ -107,7 +107,7 @@ returns-5 : tie.Need-returns-5
 returns-5 c =
     let a = c .before .before .before .before .before .before .before .before .before .before .before .before .before .before .before .before .before .before .before .before .before .before .before .args in
     let b = unpack (now (a .s)) in
-    let room : a .n ≤ length b = omega (arith, c .before .before .before .before .before .before .before .before .before .before .before .before .before .before .before .before .before .before .before .if1 .left, c .before .before .before .before .before .before .before .before .before .before .before .before .before .before .before .before .before .before .before .before .bits-in .ensures, length-unpack (now (a .s))) in
+    let room : a .n ≤ length b = omega (arith, c .before .before .before .before .before .before .before .before .before .before .before .before .before .before .before .before .before .before .before .if1 .left, c .before .before .before .before .before .before .before .before .before .before .before .before .before .before .before .before .before .before .before .before .remaining-at .ensures, length-unpack (now (a .s))) in
     let p = c .before .before .before .before .before .before .before .before .before .before .before .before .p .given .0 .0 in
     let u = c .before .before .before .before .before .u .given .0 .0 in
     let t = took (endsBytes (a .l) (eqb (a .n) 0)) b (readEnds (a .l) (drop (a .n) b)) _ 0 _ _ (c .before .before .before .before .before .before .before .before .before .before .before .before .before .before .before .before .read-ends .ensures) _ _ (c .before .before .before .before .before .before .before .before .before .before .before .before .p .given .1) in
@@ -120,7 +120,7 @@ pub read-head-spec : {M : Type 1} → statement M
 read-head-spec =
     tie.close
     (tie.spec
-    bits-in-requires
+    remaining-at-requires
     returns
     is-ap-requires
     read-ends-requires
