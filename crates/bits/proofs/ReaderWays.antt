@@ -103,17 +103,17 @@ pub record Reading-n : Type 2 where
   pub found : List ℕ → ℕ → ℕ → answer .row .Denot
 
 -- the readings of `read`
-abbrev pub taking : Reading-n
-taking = record { answer = Takens; Asks = λ bytes at n. (n ≤ 64) × (length bytes < 2 ^ 60); found = λ bytes at n. taken (at + n) (takeBits n (dropped at (unpack bytes))) }
+abbrev pub reads-take : Reading-n
+reads-take = record { answer = Takens; Asks = λ bytes at n. (n ≤ 64) × (length bytes < 2 ^ 60); found = λ bytes at n. taken (at + n) (takeBits n (dropped at (unpack bytes))) }
 
-abbrev pub texting : Reading-n
-texting = record { answer = Takens; Asks = λ bytes at n. (n ≤ 16) × (length bytes < 2 ^ 60); found = λ bytes at n. taken (at + n) (takeText n (dropped at (unpack bytes))) }
+abbrev pub reads-text : Reading-n
+reads-text = record { answer = Takens; Asks = λ bytes at n. (n ≤ 16) × (length bytes < 2 ^ 60); found = λ bytes at n. taken (at + n) (takeText n (dropped at (unpack bytes))) }
 
-abbrev pub one-bit : Reading
-one-bit = record { answer = Takens; Asks = λ bytes at. length bytes < 2 ^ 60; found = λ bytes at. taken (at + 1) (takeBits 1 (dropped at (unpack bytes))) }
+abbrev pub reads-bit : Reading
+reads-bit = record { answer = Takens; Asks = λ bytes at. length bytes < 2 ^ 60; found = λ bytes at. taken (at + 1) (takeBits 1 (dropped at (unpack bytes))) }
 
-abbrev pub all-left : Reading
-all-left = record { answer = Counts; Asks = λ bytes at. length bytes < 2 ^ 60; found = λ bytes at. length bytes * 8 - at }
+abbrev pub reads-remaining : Reading
+reads-remaining = record { answer = Counts; Asks = λ bytes at. length bytes < 2 ^ 60; found = λ bytes at. length bytes * 8 - at }
 
 -- the contract of a reading on a slice and a position, and on a reader
 module _ (w : Reading) where

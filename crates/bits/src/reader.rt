@@ -73,14 +73,6 @@ pub fn remaining_at(s: &[u8], at: usize) -> usize
     Reader { bytes: s, at }.remaining()
 }
 
-// How many bits a slice has.
-pub fn bits_in(s: &[u8]) -> usize
-    requires { ⌜ length (now s) < 2 ^ 60 ⌝ }
-    ensures { λ r. ⌜ r ≡ length (now (s .entry)) * 8 ⌝ }
-{
-    Reader::new(s).remaining()
-}
-
 // The bit at a position, 0 or 1.
 pub fn bit_at(s: &[u8], at: usize) -> Taken
     requires { ⌜ length (now s) < 2 ^ 60 ⌝ }

@@ -1,6 +1,6 @@
 -- `bits::reader::Reader::take` meets its contract: the walk of a method with a number, at `read::take`.
 -- Assumes nothing.
-use Rattle.bits.proofs.ReaderWays.{taking}
+use Rattle.bits.proofs.ReaderWays.{reads-take}
 use Rattle.bits.proofs.ReaderMethods.{method-n}
 use Rattle.bits.proofs.read.take.Symbol as step
 use Rattle.bits.proofs.read.take.Met as step-thm
@@ -10,4 +10,4 @@ use Rattle.bits.proofs.reader.Reader.take.Code as code
 
 pub take-spec : {M : Type 1} → stated.statement M
 unfolding code.routine
-take-spec 𝓤 H 𝓜 𝓖 𝓡 = method-n taking 𝓤 H 𝓜 𝓖 𝓡 code.env name step.name step.routine (code.unfolded 𝓤 H 𝓜 𝓡) code.calls-bits·read·take (step-thm.met 𝓤 H 𝓜 𝓖 𝓡)
+take-spec 𝓤 H 𝓜 𝓖 𝓡 = method-n reads-take 𝓤 H 𝓜 𝓖 𝓡 code.env name step.name step.routine (code.unfolded 𝓤 H 𝓜 𝓡) code.calls-bits·read·take (step-thm.met 𝓤 H 𝓜 𝓖 𝓡)

@@ -1,6 +1,6 @@
 -- `bits::reader::Reader::text` meets its contract: the walk of a method with a number, at `read::text`.
 -- Assumes nothing.
-use Rattle.bits.proofs.ReaderWays.{texting}
+use Rattle.bits.proofs.ReaderWays.{reads-text}
 use Rattle.bits.proofs.ReaderMethods.{method-n}
 use Rattle.bits.proofs.read.text.Symbol as step
 use Rattle.bits.proofs.read.text.Met as step-thm
@@ -10,4 +10,4 @@ use Rattle.bits.proofs.reader.Reader.text.Code as code
 
 pub text-spec : {M : Type 1} → stated.statement M
 unfolding code.routine
-text-spec 𝓤 H 𝓜 𝓖 𝓡 = method-n texting 𝓤 H 𝓜 𝓖 𝓡 code.env name step.name step.routine (code.unfolded 𝓤 H 𝓜 𝓡) code.calls-bits·read·text (step-thm.met 𝓤 H 𝓜 𝓖 𝓡)
+text-spec 𝓤 H 𝓜 𝓖 𝓡 = method-n reads-text 𝓤 H 𝓜 𝓖 𝓡 code.env name step.name step.routine (code.unfolded 𝓤 H 𝓜 𝓡) code.calls-bits·read·text (step-thm.met 𝓤 H 𝓜 𝓖 𝓡)
