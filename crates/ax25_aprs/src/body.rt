@@ -27,7 +27,7 @@ pub fn timestamped_decode(s: &[u8], at: usize, out: &mut [u8], to: usize) -> Got
     requires { ⌜ (length (now s) < 2 ^ 55) × (at < 2 ^ 59) × (to < 2 ^ 54) ⌝ }
     ensures { λ r. ⌜ Reads (readTimestamped (drop at (unpack (now (s .entry))))) (now (out .entry)) to (now (out .exit)) r ⌝ }
 {
-    if bits::read::remaining(s, at) < 20 {
+    if bits::reader::remaining_at(s, at) < 20 {
         return Got::Nothing;
     }
     let p = bits_write::byte(out, to, b'@');

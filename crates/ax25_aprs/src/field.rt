@@ -26,7 +26,7 @@ pub fn value(s: &[u8], at: usize, n: usize) -> u64
     requires { ⌜ (n ≤ 64) × (n ≤ length (now s) * 8 - at) × (length (now s) < 2 ^ 60) ⌝ }
     ensures { λ r. ⌜ r ≡ valueOf (take n (drop at (unpack (now (s .entry))))) ⌝ }
 {
-    let Taken::Bits(v, _) = bits::read::take(s, at, n) else {
+    let Taken::Bits(v, _) = bits::reader::take_at(s, at, n) else {
         return 0;
     };
     v

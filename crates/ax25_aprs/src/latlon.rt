@@ -202,7 +202,7 @@ pub fn latlon_decode(s: &[u8], at: usize, out: &mut [u8], to: usize) -> Got
     requires { ⌜ (length (now s) < 2 ^ 55) × (at < 2 ^ 60) × (to < 2 ^ 55) ⌝ }
     ensures { λ r. ⌜ Reads (readLatlon (drop at (unpack (now (s .entry))))) (now (out .entry)) to (now (out .exit)) r ⌝ }
 {
-    let left = bits::read::remaining(s, at);
+    let left = bits::reader::remaining_at(s, at);
     if left < 54 {
         return Got::Nothing;
     }

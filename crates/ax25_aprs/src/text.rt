@@ -100,7 +100,7 @@ fn put_altitude(s: &[u8], at: usize, position: bool, out: &mut [u8], to: usize) 
     if !position {
         return to;
     }
-    let n = bits_write::least(14, bits::read::remaining(s, at));
+    let n = bits_write::least(14, bits::reader::remaining_at(s, at));
     number::put_padded(out, to, 4, field::value(s, at, n))
 }
 
@@ -129,7 +129,7 @@ pub fn text_decode(s: &[u8], at: usize, position: bool, out: &mut [u8], to: usiz
 {
     let mut i = at;
     let mut next = to;
-    while 7 <= bits::read::remaining(s, i) {
+    while 7 <= bits::reader::remaining_at(s, i) {
         let code = field::value(s, i, 7);
         let behind = i + 7;
         next = put_code(s, behind, position, code, out, next);

@@ -167,7 +167,7 @@ fn inner_decode(s: &[u8], at: usize, l: usize, out: &mut [u8], to: usize) -> Got
     requires { ⌜ (length (now s) < 2 ^ 55) × (to < 2 ^ 53) × (2 ≤ l) × (l ≤ 7) ⌝ }
     ensures { λ r. ⌜ Reads (readInner l (drop at (unpack (now (s .entry))))) (now (out .entry)) to (now (out .exit)) r ⌝ }
 {
-    let Taken::Bits(k, p) = bits::read::take(s, at, 2) else {
+    let Taken::Bits(k, p) = bits::reader::take_at(s, at, 2) else {
         return Got::Nothing;
     };
     let i = bits_write::copy(out, to, b"*:");

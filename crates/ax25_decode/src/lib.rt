@@ -164,7 +164,7 @@ fn read_aliased(s: &[u8], at: usize, l: usize, n: usize, out: &mut [u8], to: usi
     requires { ⌜ (length (now s) < 5000) × (2 ≤ l) × (l ≤ 7) × (n ≤ 8) × (n ≤ length (now s) * 8) × (to < 2 ^ 10) ⌝ }
     ensures { λ r. ⌜ ReadsTo (digiBytes l (unpack (now (s .entry))) n 0) (unpack (now (s .entry))) (readAliased l n (drop at (unpack (now (s .entry))))) (now (out .entry)) to (now (out .exit)) r ⌝ }
 {
-    let Taken::Bits(x, p) = bits::read::bit(s, at) else {
+    let Taken::Bits(x, p) = bits::reader::bit_at(s, at) else {
         return Read::Nothing;
     };
     if x == 1 {

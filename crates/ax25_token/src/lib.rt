@@ -12,9 +12,9 @@ ghost use Rattle.ax25_token.specs.Call.{empty, pushed, appended, callOf,
 ghost use Rattle.ax25_token.specs.Tables.{callAlphabet};
 ghost use Rattle.ax25_token.specs.Token.{twoDigits, suffix, formOf, wideNumber, readLetters, readSpelled, readPair, readNumber, readForm, readToken};
 use bits::read::Taken;
-use bits::read::bit;
-use bits::read::take;
-use bits::read::text;
+use bits::reader::bit_at;
+use bits::reader::take_at;
+use bits::reader::text_at;
 
 // A call: its text is the first len bytes.
 pub struct Call {
@@ -102,7 +102,7 @@ fn letters(s: &[u8], at: usize, n: usize, strict: bool, c: Call) -> Decoded
     let mut p = at;
     let mut left = n;
     while 0 < left {
-        let Taken::Bits(v, q) = take(s, p, 6) else {
+        let Taken::Bits(v, q) = take_at(s, p, 6) else {
             return nothing();
         };
         p = q;
@@ -160,7 +160,7 @@ fn spelled(s: &[u8], at: usize, n: usize, c: Call) -> Decoded
     let Token::Next(p) = token else {
         return nothing();
     };
-    let Taken::Bits(v, q) = take(s, p, 4) else {
+    let Taken::Bits(v, q) = take_at(s, p, 4) else {
         return nothing();
     };
     let d = t.call;
@@ -175,7 +175,7 @@ fn wide_number(s: &[u8], at: usize, w: usize) -> Taken
     requires { ⌜ (w ≤ 2) × (length (now s) < 2 ^ 60) ⌝ }
     ensures { λ r. ⌜ r ≡ taken (at + w) (wideNumber w (drop at (unpack (now (s .entry))))) ⌝ }
 {
-    text(s, at, w)
+    text_at(s, at, w)
 }
 
 // A digit, 1 or 2, and a number of w bits.
@@ -183,7 +183,7 @@ fn pair(s: &[u8], at: usize, w: usize, c: Call) -> Decoded
     requires { ⌜ (length (now s) < 2 ^ 60) × (c .len ≤ 12) × (w ≤ 2) ⌝ }
     ensures { λ r. ⌜ (callOf (unpack (now (s .entry))) r ≡ behindCall c (readPair w (drop at (unpack (now (s .entry)))))) × (r .call .len ≤ c .len + 4) ⌝ }
 {
-    let Taken::Bits(d, p) = bit(s, at) else {
+    let Taken::Bits(d, p) = bit_at(s, at) else {
         return nothing();
     };
     let Taken::Bits(v, q) = wide_number(s, p, w) else {
@@ -201,7 +201,7 @@ fn number(s: &[u8], at: usize, low: u64, w: usize, c: Call) -> Decoded
     requires { ⌜ (length (now s) < 2 ^ 60) × (c .len ≤ 14) × (w ≤ 5) × (low < 64) ⌝ }
     ensures { λ r. ⌜ (callOf (unpack (now (s .entry))) r ≡ behindCall c (readNumber low w (drop at (unpack (now (s .entry)))))) × (r .call .len ≤ c .len + 2) ⌝ }
 {
-    let Taken::Bits(v, q) = take(s, at, w) else {
+    let Taken::Bits(v, q) = take_at(s, at, w) else {
         return nothing();
     };
     Decoded {
@@ -268,7 +268,7 @@ pub fn token_decode(s: &[u8], at: usize, l: usize) -> Decoded
     requires { ⌜ (length (now s) < 2 ^ 60) × (2 ≤ l) × (l ≤ 7) ⌝ }
     ensures { λ r. ⌜ (texts (callOf (unpack (now (s .entry))) r) ≡ readToken l (drop at (unpack (now (s .entry))))) × (r .call .len ≤ 10) ⌝ }
 {
-    let Taken::Bits(i, p) = take(s, at, 6) else {
+    let Taken::Bits(i, p) = take_at(s, at, 6) else {
         return nothing();
     };
     match i {

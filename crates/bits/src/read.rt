@@ -31,7 +31,7 @@ pub enum Got {
 }
 
 // How many bits there are from a position on.
-pub fn remaining(s: &[u8], at: usize) -> usize
+pub(crate) fn remaining(s: &[u8], at: usize) -> usize
     requires { ⌜ length (now s) < 2 ^ 60 ⌝ }
     ensures { λ r. ⌜ r ≡ length (now (s .entry)) * 8 - at ⌝ }
 {
@@ -87,7 +87,7 @@ fn value(s: &[u8], at: usize, n: usize) -> u64
 }
 
 // The next n bits, as a number.
-pub fn take(s: &[u8], at: usize, n: usize) -> Taken
+pub(crate) fn take(s: &[u8], at: usize, n: usize) -> Taken
     requires { ⌜ (n ≤ 64) × (length (now s) < 2 ^ 60) ⌝ }
     ensures { λ r. ⌜ r ≡ taken (at + n) (takeBits n (drop at (unpack (now (s .entry))))) ⌝ }
 {
@@ -101,7 +101,7 @@ pub fn take(s: &[u8], at: usize, n: usize) -> Taken
 }
 
 // The next bit, 0 or 1.
-pub fn bit(s: &[u8], at: usize) -> Taken
+pub(crate) fn bit(s: &[u8], at: usize) -> Taken
     requires { ⌜ length (now s) < 2 ^ 60 ⌝ }
     ensures { λ r. ⌜ r ≡ taken (at + 1) (takeBits 1 (drop at (unpack (now (s .entry))))) ⌝ }
 {
@@ -123,7 +123,7 @@ fn digits(s: &[u8], at: usize, n: usize) -> u64
 }
 
 // The next n bits as text of 0 and 1, and the number that `vb_val` reads there.
-pub fn text(s: &[u8], at: usize, n: usize) -> Taken
+pub(crate) fn text(s: &[u8], at: usize, n: usize) -> Taken
     requires { ⌜ (n ≤ 16) × (length (now s) < 2 ^ 60) ⌝ }
     ensures { λ r. ⌜ r ≡ taken (at + n) (takeText n (drop at (unpack (now (s .entry))))) ⌝ }
 {
@@ -232,7 +232,7 @@ fn sevens(s: &[u8], at: usize, n: usize, out: &mut [u8], to: usize) -> usize
 }
 
 // The text from a position on, without the pad, written from a place of the output on.
-pub fn text7(s: &[u8], at: usize, out: &mut [u8], to: usize) -> Got
+pub(crate) fn text7(s: &[u8], at: usize, out: &mut [u8], to: usize) -> Got
     requires { ⌜ (length (now s) < 2 ^ 60) × (to < 2 ^ 61) ⌝ }
     ensures { λ r. ⌜ (r ≡ text7Next to (text7Of (unpack (now (s .entry))) at))
         × (now (out .exit) ≡ text7Left (now (out .entry)) to (text7Of (unpack (now (s .entry))) at)) ⌝ }

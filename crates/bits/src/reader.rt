@@ -65,12 +65,28 @@ impl<'a> Reader<'a> {
     }
 }
 
-// How many bits a slice has. This function and the two below take no reader: who calls them needs no walk by hand.
+// How many bits a slice has. This function and those below take no reader: who calls them needs no walk by hand.
 pub fn bits_in(s: &[u8]) -> usize
     requires { ⌜ length (now s) < 2 ^ 60 ⌝ }
     ensures { λ r. ⌜ r ≡ length (now (s .entry)) * 8 ⌝ }
 {
     Reader::new(s).remaining()
+}
+
+// How many bits there are from a position on.
+pub fn remaining_at(s: &[u8], at: usize) -> usize
+    requires { ⌜ length (now s) < 2 ^ 60 ⌝ }
+    ensures { λ r. ⌜ r ≡ length (now (s .entry)) * 8 - at ⌝ }
+{
+    Reader { bytes: s, at }.remaining()
+}
+
+// The bit at a position, 0 or 1.
+pub fn bit_at(s: &[u8], at: usize) -> Taken
+    requires { ⌜ length (now s) < 2 ^ 60 ⌝ }
+    ensures { λ r. ⌜ r ≡ taken (at + 1) (takeBits 1 (drop at (unpack (now (s .entry))))) ⌝ }
+{
+    Reader { bytes: s, at }.bit()
 }
 
 // The n bits from a position on, as a number.
@@ -79,6 +95,14 @@ pub fn take_at(s: &[u8], at: usize, n: usize) -> Taken
     ensures { λ r. ⌜ r ≡ taken (at + n) (takeBits n (drop at (unpack (now (s .entry))))) ⌝ }
 {
     Reader { bytes: s, at }.take(n)
+}
+
+// The n bits from a position on as text of 0 and 1, and the number that `vb_val` reads there.
+pub fn text_at(s: &[u8], at: usize, n: usize) -> Taken
+    requires { ⌜ (n ≤ 16) × (length (now s) < 2 ^ 60) ⌝ }
+    ensures { λ r. ⌜ r ≡ taken (at + n) (takeText n (drop at (unpack (now (s .entry))))) ⌝ }
+{
+    Reader { bytes: s, at }.text(n)
 }
 
 // The text from a position on, without the pad, written from a place of the output on.

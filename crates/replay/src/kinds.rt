@@ -197,7 +197,7 @@ fn take(at: u64, n: u64, s: &[u8], answer: &[u8]) -> Outcome
     if 64 < n {
         return Outcome::Bad;
     }
-    same_taken(answer, bits::read::take(s, at as usize, n as usize))
+    same_taken(answer, bits::reader::take_at(s, at as usize, n as usize))
 }
 
 // digits AT N HEX VALUE: the number whose decimal digits are the N bits at AT
@@ -207,7 +207,7 @@ fn digits(at: u64, n: u64, s: &[u8], answer: &[u8]) -> Outcome
     if 16 < n {
         return Outcome::Bad;
     }
-    same_taken(answer, bits::read::text(s, at as usize, n as usize))
+    same_taken(answer, bits::reader::text_at(s, at as usize, n as usize))
 }
 
 // text7 AT HEX TEXT: the text of seven bits a byte from AT on
@@ -215,7 +215,7 @@ fn text7(at: u64, s: &[u8], answer: &[u8]) -> Outcome
     requires { ⌜ length (now s) ≤ 65536 ⌝ }
 {
     let mut out = io::large_buffer();
-    let ours = bits::read::text7(s, at as usize, &mut out, 0);
+    let ours = bits::reader::text7_at(s, at as usize, &mut out, 0);
     same_got(answer, &out, ours)
 }
 

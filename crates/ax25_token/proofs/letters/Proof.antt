@@ -34,8 +34,8 @@ abbrev μ-loop : tie.MeasureT-loop
 loop-holds : tie.Need-loop-holds Inv-loop μ-loop
 loop-holds c = (search needs, search needs, search needs, λ r i. i)
 
-take-requires : tie.Need-take-requires Inv-loop μ-loop
-take-requires c κs = search needs
+take-at-requires : tie.Need-take-at-requires Inv-loop μ-loop
+take-at-requires c κs = search needs
 
 enum-known-v : tie.Need-enum-known-v Inv-loop μ-loop
 enum-known-v c = search needs
@@ -49,7 +49,7 @@ nothing-requires c κs = search needs
 returns : tie.Need-returns Inv-loop μ-loop
 returns c =
     let at-loop = c .before .before .before .before .before in
-    let told : takenAt _ _ 6 ≡ Short = sym (c .before .before .before .take .ensures) ∙ c .before .enum-told .given .1 in
+    let told : takenAt _ _ 6 ≡ Short = sym (c .before .before .before .take-at .ensures) ∙ c .before .enum-told .given .1 in
     at-loop .loop .inv .3 _ (short _ _ _ _ _ (some-left (c .before .before .before .before .loop-test .taken)) told _ (c .nothing .ensures))
 
 sub-left : tie.Need-sub-left Inv-loop μ-loop
@@ -63,7 +63,7 @@ loop-again c =
     let at-loop = c .before .before .before .before .before .before in
     let v = c .before .before .v .given .0 .0 in
     let q = c .before .before .v .given .0 .1 .0 in
-    let told : takenAt _ _ 6 ≡ Bits v q = sym (c .before .before .before .before .take .ensures) ∙ c .before .before .v .given .1 in
+    let told : takenAt _ _ 6 ≡ Bits v q = sym (c .before .before .before .before .take-at .ensures) ∙ c .before .before .v .given .1 in
     (search needs, search needs, search needs, λ r i. at-loop .loop .inv .3 r (blank _ _ _ _ _ (some-left (c .before .before .before .before .before .loop-test .taken)) v q told (c .if1 .taken) r i))
 
 letter-requires : tie.Need-letter-requires Inv-loop μ-loop
@@ -84,7 +84,7 @@ loop-again-2 c =
     let at-loop = c .before .before .before .before .before .before .before .before in
     let v = c .before .before .before .before .v .given .0 .0 in
     let q = c .before .before .before .before .v .given .0 .1 .0 in
-    let told : takenAt _ _ 6 ≡ Bits v q = sym (c .before .before .before .before .before .before .take .ensures) ∙ c .before .before .before .before .v .given .1 in
+    let told : takenAt _ _ 6 ≡ Bits v q = sym (c .before .before .before .before .before .before .take-at .ensures) ∙ c .before .before .before .before .v .given .1 in
     let d = ap (pushed (record { bytes = at-loop .loop .bytes; len = at-loop .loop .len })) (c .letter .ensures) in
     (search needs, search needs, search needs, λ r i. at-loop .loop .inv .3 r (more _ _ _ _ _ (some-left (c .before .before .before .before .before .before .before .loop-test .taken)) v q told (c .before .before .if1 .left) (c .before .if2 .taken) _ d r i))
 
@@ -96,7 +96,7 @@ returns-2 c =
     let at-loop = c .before .before .before .before .before .before .before .before .before in
     let v = c .before .before .before .before .before .v .given .0 .0 in
     let q = c .before .before .before .before .before .v .given .0 .1 .0 in
-    let told : takenAt _ _ 6 ≡ Bits v q = sym (c .before .before .before .before .before .before .before .take .ensures) ∙ c .before .before .before .before .before .v .given .1 in
+    let told : takenAt _ _ 6 ≡ Bits v q = sym (c .before .before .before .before .before .before .before .take-at .ensures) ∙ c .before .before .before .before .before .v .given .1 in
     at-loop .loop .inv .3 _ (ends _ _ _ _ _ (some-left (c .before .before .before .before .before .before .before .before .loop-test .taken)) v q told (c .before .if3 .taken) (c .before .before .if2 .left) _ (c .nothing2 .ensures))
 
 loop-less-3 : tie.Need-loop-less-3 Inv-loop μ-loop
@@ -107,7 +107,7 @@ loop-again-3 c =
     let at-loop = c .before .before .before .before .before .before .before .before in
     let v = c .before .before .before .before .v .given .0 .0 in
     let q = c .before .before .before .before .v .given .0 .1 .0 in
-    let told : takenAt _ _ 6 ≡ Bits v q = sym (c .before .before .before .before .before .before .take .ensures) ∙ c .before .before .before .before .v .given .1 in
+    let told : takenAt _ _ 6 ≡ Bits v q = sym (c .before .before .before .before .before .before .take-at .ensures) ∙ c .before .before .before .before .v .given .1 in
     (search needs, search needs, search needs, λ r i. at-loop .loop .inv .3 r (skips _ _ _ _ _ (some-left (c .before .before .before .before .before .before .before .loop-test .taken)) v q told (c .if3 .left) (c .before .if2 .left) r i))
 
 returns-3 : tie.Need-returns-3 Inv-loop μ-loop
@@ -120,7 +120,7 @@ letters-spec =
     Inv-loop
     μ-loop
     loop-holds
-    take-requires
+    take-at-requires
     enum-known-v
     enum-told
     nothing-requires

@@ -9,8 +9,8 @@ use Rattle.ax25_token.proofs.ReaderWays.{no-digit, no-number, with-pair
 use Rattle.ax25_token.proofs.pair.Statement.{statement}
 use Rattle.ax25_token.proofs.pair.Tie as tie
 
-bit-requires : tie.Need-bit-requires
-bit-requires c κs = search needs
+bit-at-requires : tie.Need-bit-at-requires
+bit-at-requires c κs = search needs
 
 enum-known-d : tie.Need-enum-known-d
 enum-known-d c = search needs
@@ -23,7 +23,7 @@ nothing-requires c κs = search needs
 
 returns : tie.Need-returns
 returns c =
-    no-digit _ (c .before .before .before .before .before .args .at) _ _ (sym (c .before .before .before .bit .ensures) ∙ c .before .enum-told .given .1) _ (c .nothing .ensures)
+    no-digit _ (c .before .before .before .before .before .args .at) _ _ (sym (c .before .before .before .bit-at .ensures) ∙ c .before .enum-told .given .1) _ (c .nothing .ensures)
 
 wide-number-requires : tie.Need-wide-number-requires
 wide-number-requires c κs = search needs
@@ -39,17 +39,17 @@ nothing-requires-2 c κs = search needs
 
 returns-2 : tie.Need-returns-2
 returns-2 c =
-    let digit = sym (c .before .before .before .before .before .before .before .bit .ensures) ∙ c .before .before .before .before .before .d .given .1 in
+    let digit = sym (c .before .before .before .before .before .before .before .bit-at .ensures) ∙ c .before .before .before .before .before .d .given .1 in
     no-number _ (c .before .before .before .before .before .before .before .before .before .args .at) _ _ _ _ digit (sym (c .before .before .before .wide-number .ensures) ∙ c .before .enum-told2 .given .1) _ (c .nothing2 .ensures)
 
 add-push : tie.Need-add-push
 add-push c =
-    let digit = sym (c .before .before .before .before .before .before .before .bit .ensures) ∙ c .before .before .before .before .before .d .given .1 in
+    let digit = sym (c .before .before .before .before .before .before .before .bit-at .ensures) ∙ c .before .before .before .before .before .d .given .1 in
     omega (arith, told-small _ (c .before .before .before .before .before .before .before .before .before .args .at) 1 _ _ digit 1 (omega arith))
 
 cast-push : tie.Need-cast-push
 cast-push c =
-    let digit = sym (c .before .before .before .before .before .before .before .bit .ensures) ∙ c .before .before .before .before .before .d .given .1 in
+    let digit = sym (c .before .before .before .before .before .before .before .bit-at .ensures) ∙ c .before .before .before .before .before .d .given .1 in
     omega (arith, told-small _ (c .before .before .before .before .before .before .before .before .before .args .at) 1 _ _ digit 1 (omega arith))
 
 push-requires : tie.Need-push-requires
@@ -63,7 +63,7 @@ suffixed-requires c κs =
 
 returns-3 : tie.Need-returns-3
 returns-3 c =
-    let digit = sym (c .before .before .before .before .before .before .before .before .before .bit .ensures) ∙ c .before .before .before .before .before .before .before .d .given .1 in
+    let digit = sym (c .before .before .before .before .before .before .before .before .before .bit-at .ensures) ∙ c .before .before .before .before .before .before .before .d .given .1 in
     let number = sym (c .before .before .before .before .before .wide-number .ensures) ∙ c .before .before .before .v .given .1 in
     with-pair _ (c .before .before .before .before .before .before .before .before .before .before .before .args .at) _ _ _ _ digit _ _ number _ _ (c .before .push .ensures .0) (c .suffixed .ensures .0) (c .before .push .ensures .1) (c .suffixed .ensures .1)
 
@@ -71,7 +71,7 @@ pub pair-spec : {M : Type 1} → statement M
 pair-spec =
     tie.close
     (tie.spec
-    bit-requires
+    bit-at-requires
     enum-known-d
     enum-told
     nothing-requires

@@ -25,8 +25,8 @@ nothing-requires c κs = search needs
 returns : tie.Need-returns
 returns c = no-letters _ (c .before .before .before .before .before .args .at) _ _ _ (c .before .before .before .letters .ensures) (c .before .enum-told .given .1) _ (c .nothing .ensures)
 
-take-requires : tie.Need-take-requires
-take-requires c κs = search needs
+take-at-requires : tie.Need-take-at-requires
+take-at-requires c κs = search needs
 
 enum-known-v : tie.Need-enum-known-v
 enum-known-v c = search needs
@@ -39,17 +39,17 @@ nothing-requires-2 c κs = search needs
 
 returns-2 : tie.Need-returns-2
 returns-2 c =
-    let told : takenAt _ _ 4 ≡ Short = sym (c .before .before .before .take .ensures) ∙ c .before .enum-told2 .given .1 in
+    let told : takenAt _ _ 4 ≡ Short = sym (c .before .before .before .take-at .ensures) ∙ c .before .enum-told2 .given .1 in
     no-ssid _ (c .before .before .before .before .before .before .before .before .before .args .at) _ _ _ (c .before .before .before .before .before .before .before .letters .ensures) _ (c .before .before .before .before .before .token .given .1) told _ (c .nothing2 .ensures)
 
 suffixed-requires : tie.Need-suffixed-requires
 suffixed-requires c κs =
-    let small = told-small _ _ 4 _ _ (sym (c .before .before .before .before .take .ensures) ∙ c .before .before .v .given .1) 4 (omega arith) in
+    let small = told-small _ _ 4 _ _ (sym (c .before .before .before .before .take-at .ensures) ∙ c .before .before .v .given .1) 4 (omega arith) in
     omega (arith, small, c .before .before .before .before .before .before .before .before .letters .ensures .1)
 
 returns-3 : tie.Need-returns-3
 returns-3 c =
-    let told = sym (c .before .before .before .before .before .take .ensures) ∙ c .before .before .before .v .given .1 in
+    let told = sym (c .before .before .before .before .before .take-at .ensures) ∙ c .before .before .before .v .given .1 in
     with-ssid _ (c .before .before .before .before .before .before .before .before .before .before .before .args .at) _ _ _ (c .before .before .before .before .before .before .before .before .before .letters .ensures) _ (c .before .before .before .before .before .before .before .token .given .1) _ _ told _ (c .suffixed .ensures .0) (c .suffixed .ensures .1)
 
 pub spelled-spec : {M : Type 1} → statement M
@@ -61,7 +61,7 @@ spelled-spec =
     enum-told
     nothing-requires
     returns
-    take-requires
+    take-at-requires
     enum-known-v
     enum-told-2
     nothing-requires-2

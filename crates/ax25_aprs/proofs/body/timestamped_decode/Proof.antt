@@ -18,14 +18,14 @@ use Rattle.ax25_aprs.proofs.ValueLaws.{bits-left}
 use Rattle.ax25_aprs.proofs.body.timestamped_decode.Statement.{statement}
 use Rattle.ax25_aprs.proofs.body.timestamped_decode.Tie as tie
 
-remaining-requires : tie.Need-remaining-requires
-remaining-requires c κs = search needs
+remaining-at-requires : tie.Need-remaining-at-requires
+remaining-at-requires c κs = search needs
 
 returns : tie.Need-returns
 returns c =
     let a = c .before .before .before .before .args in
     let b = drop (a .at) (unpack (now (a .s))) in
-    let few : length b < 20 = omega (arith, bits-left (now (a .s)) (a .at), c .before .remaining .ensures) in
+    let few : length b < 20 = omega (arith, bits-left (now (a .s)) (a .at), c .before .remaining-at .ensures) in
     rw (timestamped-none b few) refl
 
 byte-requires : tie.Need-byte-requires
@@ -56,7 +56,7 @@ returns-2 c =
     let a = c .before .before .before .before .before .before .before .before .before .before .before .before .before .before .before .before .before .before .before .before .before .args in
     let u = unpack (now (a .s)) in
     let b = drop (a .at) u in
-    let left = c .before .before .before .before .before .before .before .before .before .before .before .before .before .before .before .before .before .before .remaining .ensures in
+    let left = c .before .before .before .before .before .before .before .before .before .before .before .before .before .before .before .before .before .before .remaining-at .ensures in
     let many : 20 ≤ length b = omega (arith, bits-left (now (a .s)) (a .at), left, c .before .before .before .before .before .before .before .before .before .before .before .before .before .before .before .before .before .if1 .left) in
     rw (timestamped-some b many, field-at (a .at) 0 20 u, add-zero (a .at), ← c .before .before .before .before .before .before .before .before .before .before .before .value .ensures, drop-drop 20 (a .at) u)
     (reads-then (wrote-then (c .before .before .before .before .before .before .before .before .before .before .before .before .before .before .before .byte .ensures) (wrote-then (c .before .before .before .before .before .before .before .before .before .before .put-padded .ensures) (c .before .before .before .before .before .before .byte2 .ensures))) (readLatlon (drop (a .at + 20) u)) _ _ (c .before .before .latlon-decode .ensures))
@@ -65,7 +65,7 @@ pub timestamped-decode-spec : {M : Type 1} → statement M
 timestamped-decode-spec =
     tie.close
     (tie.spec
-    remaining-requires
+    remaining-at-requires
     returns
     byte-requires
     value-requires

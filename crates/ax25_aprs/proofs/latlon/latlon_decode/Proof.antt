@@ -16,14 +16,14 @@ use Rattle.ax25_aprs.proofs.ValueLaws.{bits-left}
 use Rattle.ax25_aprs.proofs.latlon.latlon_decode.Statement.{statement}
 use Rattle.ax25_aprs.proofs.latlon.latlon_decode.Tie as tie
 
-remaining-requires : tie.Need-remaining-requires
-remaining-requires c κs = search needs
+remaining-at-requires : tie.Need-remaining-at-requires
+remaining-at-requires c κs = search needs
 
 returns : tie.Need-returns
 returns c =
     let a = c .before .before .before .before .args in
     let b = drop (a .at) (unpack (now (a .s))) in
-    let few : length b < tableEnd b + 29 = omega (arith, end-around b, bits-left (now (a .s)) (a .at), c .before .remaining .ensures) in
+    let few : length b < tableEnd b + 29 = omega (arith, end-around b, bits-left (now (a .s)) (a .at), c .before .remaining-at .ensures) in
     rw (latlon-none b few) refl
 
 table-end-requires : tie.Need-table-end-requires
@@ -38,7 +38,7 @@ returns-2 : tie.Need-returns-2
 returns-2 c =
     let a = c .before .before .before .before .before .before .args in
     let b = drop (a .at) (unpack (now (a .s))) in
-    let few : length b < tableEnd b + 29 = omega (arith, c .before .table-end .ensures, bits-left (now (a .s)) (a .at), c .before .before .before .remaining .ensures) in
+    let few : length b < tableEnd b + 29 = omega (arith, c .before .table-end .ensures, bits-left (now (a .s)) (a .at), c .before .before .before .remaining-at .ensures) in
     rw (latlon-none b few) refl
 
 read-lat-requires : tie.Need-read-lat-requires
@@ -48,7 +48,7 @@ read-lon-requires : tie.Need-read-lon-requires
 read-lon-requires c κs =
     let a = c .before .before .before .before .before .before .before .before .before .before .before .args in
     let b = drop (a .at) (unpack (now (a .s))) in
-    let left = c .before .before .before .before .before .before .before .before .remaining .ensures in
+    let left = c .before .before .before .before .before .before .before .before .remaining-at .ensures in
     let e = c .before .before .before .before .before .before .table-end in
     let p = c .before .before .before .read-lat .ensures .next-is in
     (e .ensures, omega (arith, left), search needs, omega (arith, p, lat-text-size b))
@@ -75,7 +75,7 @@ returns-3 c =
     let a = c .before .before .before .before .before .before .before .before .before .before .before .before .before .before .before .before .before .before .args in
     let u = unpack (now (a .s)) in
     let b = drop (a .at) u in
-    let left = c .before .before .before .before .before .before .before .before .before .before .before .before .before .before .before .remaining .ensures in
+    let left = c .before .before .before .before .before .before .before .before .before .before .before .before .before .before .before .remaining-at .ensures in
     let e = c .before .before .before .before .before .before .before .before .before .before .before .before .before .table-end in
     let enough : tableEnd b + 29 ≤ length b = omega (arith, e .ensures, bits-left (now (a .s)) (a .at), left, c .before .before .before .before .before .before .before .before .before .before .before .before .if2 .left) in
     rw (latlon-some b enough, ← e .ensures, drop-drop (e .result + 29) (a .at) u)
@@ -85,7 +85,7 @@ pub latlon-decode-spec : {M : Type 1} → statement M
 latlon-decode-spec =
     tie.close
     (tie.spec
-    remaining-requires
+    remaining-at-requires
     returns
     table-end-requires
     add-if2

@@ -19,8 +19,8 @@ returns c =
     let a = c .before .before .before .args in
     rw (not-true (a .position) (c .if1 .taken), altitude-no (drop (a .at) (unpack (now (a .s))))) wrote-none
 
-remaining-requires : tie.Need-remaining-requires
-remaining-requires c κs = search needs
+remaining-at-requires : tie.Need-remaining-at-requires
+remaining-at-requires c κs = search needs
 
 least-requires : tie.Need-least-requires
 least-requires c κs = search needs
@@ -39,7 +39,7 @@ returns-2 c =
     let a = c .before .before .before .before .before .before .before .before .before .before .args in
     let b = drop (a .at) (unpack (now (a .s))) in
     let n = c .before .before .before .before .before .least in
-    let e : n .result ≡ min 14 (length b) = omega (arith, n .ensures, c .before .before .before .before .before .before .remaining .ensures, bits-left (now (a .s)) (a .at)) in
+    let e : n .result ≡ min 14 (length b) = omega (arith, n .ensures, c .before .before .before .before .before .before .remaining-at .ensures, bits-left (now (a .s)) (a .at)) in
     rw (not-false (a .position) (c .before .before .before .before .before .before .before .if1 .left), altitude-number b, ← take-min 14 b, ← e, ← c .before .before .before .value .ensures) (c .before .before .put-padded .ensures)
 
 pub put-altitude-spec : {M : Type 1} → statement M
@@ -47,7 +47,7 @@ put-altitude-spec =
     tie.close
     (tie.spec
     returns
-    remaining-requires
+    remaining-at-requires
     least-requires
     value-requires
     put-padded-requires

@@ -29,8 +29,8 @@ abbrev μ-loop : tie.MeasureT-loop
 loop-holds : tie.Need-loop-holds Inv-loop μ-loop
 loop-holds c = (search needs, omega arith, λ e r h. h)
 
-remaining-requires : tie.Need-remaining-requires Inv-loop μ-loop
-remaining-requires c κs = search needs
+remaining-at-requires : tie.Need-remaining-at-requires Inv-loop μ-loop
+remaining-at-requires c κs = search needs
 
 value-requires : tie.Need-value-requires Inv-loop μ-loop
 value-requires c κs = search needs
@@ -43,7 +43,7 @@ put-code-requires c κs =
     let at-loop = c .before .before .before .before in
     let a = at-loop .before .before .before .args in
     let b = drop (at-loop .loop .i) (unpack (now (a .s))) in
-    omega (arith, value-take-lt b 7, c .before .value .ensures, c .before .before .before .remaining .ensures)
+    omega (arith, value-take-lt b 7, c .before .value .ensures, c .before .before .before .remaining-at .ensures)
 
 span-requires : tie.Need-span-requires Inv-loop μ-loop
 span-requires c κs = search needs
@@ -55,7 +55,7 @@ add-i c =
     omega (arith, c .span .ensures, span-le (a .position) (c .before .before .before .before .before .value .result))
 
 loop-less : tie.Need-loop-less Inv-loop μ-loop
-loop-less c = omega (arith, c .before .before .before .before .before .before .before .remaining .ensures)
+loop-less c = omega (arith, c .before .before .before .before .before .before .before .remaining-at .ensures)
 
 loop-again : tie.Need-loop-again Inv-loop μ-loop
 loop-again c =
@@ -64,7 +64,7 @@ loop-again c =
     let i = at-loop .loop .i in
     let u = unpack (now (a .s)) in
     let b = drop i u in
-    let left = c .before .before .before .before .before .before .before .remaining .ensures in
+    let left = c .before .before .before .before .before .before .before .remaining-at .ensures in
     let read = c .before .before .before .before .before .value in
     let put = c .before .before .before .put-code in
     let n = codeSpan (a .position) (read .result) in
@@ -84,7 +84,7 @@ returns c =
     let at-loop = c .before .before in
     let a = at-loop .before .before .before .args in
     let b = drop (at-loop .loop .i) (unpack (now (a .s))) in
-    let few : length b < 7 = omega (arith, bits-left (now (a .s)) (at-loop .loop .i), c .before .remaining .ensures) in
+    let few : length b < 7 = omega (arith, bits-left (now (a .s)) (at-loop .loop .i), c .before .remaining-at .ensures) in
     at-loop .loop .inv .2 (at-loop .loop .out) (at-loop .loop .next) (rw (read-short (a .position) b few) wrote-none)
 
 pub text-decode-spec : {M : Type 1} → statement M
@@ -94,7 +94,7 @@ text-decode-spec =
     Inv-loop
     μ-loop
     loop-holds
-    remaining-requires
+    remaining-at-requires
     value-requires
     add-behind
     put-code-requires

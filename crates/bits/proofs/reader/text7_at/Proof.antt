@@ -16,7 +16,7 @@ use prog.Wp.{Heap, Calls, Loops, WpFn, Tables}
 use ghost.Atoms.{Atoms, sem}
 use contract.Lifetimes.{Lfts}
 use contract.Monad.{Fun, fact}
-use contract.Running.{givenOf, tables, tablesOf}
+use contract.Running.{givenOf}
 use types.Kit.{Given, ‵, raw, _⊛_, ⋆, some, later, _$_, _∵_, !, qed, by, move, drop, use1, use2, split, pick, fsplit, fjoin, feqL, suffices, frame, await, done}
 use types.Part.{agg, whole, sub, look-in}
 use types.Run.{look, init, forget, stop, hop, fld, from, load, addr, and-then, no-more, assigns, land, returns, enter, alloc1, alloc0, params1, pass1, pass0, free1, free0}
@@ -35,7 +35,6 @@ use denote.Triple.Statement.{Contract, Triple}
 use denote.Triple.Call.{calls-at}
 use denote.Triple.Entry.{Vals, onEntry}
 use denote.Triple.Spec.{Meets, tripleOf}
-use denote.Triple.Table.{entered, cited}
 use denote.Triple.Walked.{says, needs, Stays, stay-none, stay-none-slice, gave-slice, walkOf, goes-none, goes-none-slice, goes-gave-slice, Walks, ends-at, walked, walk-meets}
 use denote.Exit.{yes}
 use denote.Triple.Clauses.{ensured, lasts}
@@ -43,6 +42,7 @@ use Rattle.laws.specs.Bits.{unpack}
 use Rattle.bits.specs.Text7.{text7Of, text7Next, text7Left}
 use Rattle.bits.specs.declared.reader.Reader.{Reader}
 use Rattle.bits.specs.declared.read.Got.{Got}
+use Rattle.bits.proofs.ReaderWays.{through}
 use Rattle.bits.proofs.reader.Reader as T
 use Rattle.bits.proofs.reader.Reader.Laws as T′
 use Rattle.bits.proofs.read.Got as S
@@ -173,9 +173,7 @@ text7-at-meets 𝓤 H A W mem run 𝓣 known = walk-meets 𝓤 H A text7-at.ende
     (text7-at-walks 𝓤 H A W mem run (𝓣 .C) (𝓣 .Λ) (fmOf 𝓤 H (W .laws) 𝓣) known)
 
 pub text7-at-spec : {M : Type 1} → stated.statement M
-unfolding code.routine tablesOf
+unfolding code.routine
 text7-at-spec 𝓤 H 𝓜 𝓖 𝓡 =
-    entered 𝓤 H (tripleOf 𝓤 H (𝓖 .A) text7-at.signature (text7-at.spec 𝓤 H (𝓖 .A) (𝓜 .mem) (𝓡 .run)))
-    (tables 𝓤 H 𝓜 𝓡 code.env .C) (tables 𝓤 H 𝓜 𝓡 code.env .Λ) #bits·text7-at code.function (code.unfolded 𝓤 H 𝓜 𝓡)
-    (text7-at-meets 𝓤 H (𝓖 .A) (givenOf 𝓤 H 𝓜 𝓖) (𝓜 .mem) (𝓡 .run) (tablesOf 𝓤 H 𝓜 (tables 𝓤 H 𝓜 𝓡 code.env))
-    (cited 𝓤 H (Text7 𝓤 H (𝓖 .A) (𝓜 .mem) (𝓡 .run)) 𝓜 𝓡 code.env #bits·text7 text7-def.routine code.calls-bits·reader·Reader·text7 (text7-thm.met 𝓤 H 𝓜 𝓖 𝓡)))
+    through 𝓤 H 𝓜 𝓡 code.env (tripleOf 𝓤 H (𝓖 .A) text7-at.signature (text7-at.spec 𝓤 H (𝓖 .A) (𝓜 .mem) (𝓡 .run))) (Text7 𝓤 H (𝓖 .A) (𝓜 .mem) (𝓡 .run)) #bits·text7-at #bits·text7 code.function text7-def.routine
+    (text7-at-meets 𝓤 H (𝓖 .A) (givenOf 𝓤 H 𝓜 𝓖) (𝓜 .mem) (𝓡 .run)) (code.unfolded 𝓤 H 𝓜 𝓡) code.calls-bits·reader·Reader·text7 (text7-thm.met 𝓤 H 𝓜 𝓖 𝓡)
