@@ -5,8 +5,7 @@ use crate::tally::{Kind, Tally};
 use crate::xara;
 use answers::hex::to_hex;
 use answers::random::Random;
-use answers::{MAX_MESSAGE, frames, messages};
-use xara_arq::bits::Bits;
+use answers::{MAX_MESSAGE, cases, frames, messages};
 
 /// The most bytes that a message decodes to.
 pub const MOST_DECODED: usize = 45_764;
@@ -50,19 +49,9 @@ pub fn every_room(r: &mut Random, tally: &mut Tally) {
     tally.every_room();
 }
 
-/// The message that decodes to the most bytes: a third party's with a text of `PinPoint` alone, behind calls of 6 bits each
-/// but for one of 9, WIDE2-11.
+/// The message that decodes to the most bytes.
 pub fn longest(r: &mut Random, tally: &mut Tally) {
-    let mut bits = Bits::default();
-    bits.push(0, 8);
-    for (value, width) in [(47, 6), (47, 6), (0b1001, 4), (6, 3), (0b1_0010_1111, 9), (47, 6), (47, 6), (2, 2), (47, 6)]
-    {
-        bits.push(value, width);
-    }
-    while bits.len() + 7 <= 8 * (MAX_MESSAGE - 1) {
-        bits.push(3, 7);
-    }
-    let message = [&[0x5F], &bits.pack()[..]].concat();
+    let message = cases::largest();
     let expected = answers::decode(&message).map(|(command, data)| (data, command));
     assert_eq!((message.len(), exact(&expected, 0)), (MAX_MESSAGE, MOST_DECODED));
     tally.decoded(value(&expected), MOST_DECODED);

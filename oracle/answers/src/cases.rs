@@ -640,9 +640,9 @@ fn last_runs(r: &mut Random) -> Vec<Vec<u8>> {
 }
 
 /// The message whose data are the longest: ten calls of seven letters, a message of a third party, and a word of eight
-/// letters for every seven bits.
+/// letters for every seven bits. Its calls take 6 bits each but for WIDE2-3, of 9, which decodes to WIDE2-11.
 pub fn largest() -> Vec<u8> {
-    let calls = ["APVARA", "CQ", "APVARA", "APVARA", "APVARA", "CQ"];
+    let calls = ["APVARA", "CQ", "WIDE2-3", "APVARA", "APVARA", "CQ"];
     ThirdParty { heard: 0, calls, alias: 1, inner: MESSAGE }.message(crate::MAX_MESSAGE, || LONGEST)
 }
 
@@ -677,6 +677,6 @@ mod tests {
     fn the_largest_decoded() {
         let message = largest();
         assert_eq!(message.len(), 5_000);
-        assert_eq!(crate::decode(&message).expect("a message").1.len(), 45_762);
+        assert_eq!(crate::decode(&message).expect("a message").1.len(), 45_764);
     }
 }

@@ -81,7 +81,11 @@ pub fn words(r: &mut Random, n: usize, longest: bool) -> Vec<u8> {
     let heard = r.number();
     let alias = 1 + r.below(5) as u64;
     let inner = if longest { MESSAGE } else { r.number() };
-    let party = ThirdParty { heard, calls: ["APBPQ1"; 6], alias, inner };
+    let mut calls = ["APBPQ1"; 6];
+    if longest {
+        calls[2] = "WIDE2-3";
+    }
+    let party = ThirdParty { heard, calls, alias, inner };
     party.message(n, || if longest { LONGEST } else { r.below(12) as u64 })
 }
 
@@ -122,7 +126,7 @@ mod tests {
     fn the_most_bytes() {
         let message = words(&mut Random::new(1, "most"), MAX_MESSAGE, true);
         assert_eq!(message.len(), MAX_MESSAGE);
-        assert_eq!(crate::decode(&message).map(|(command, data)| (command, data.len())), Ok((1, 45_762)));
+        assert_eq!(crate::decode(&message).map(|(command, data)| (command, data.len())), Ok((1, 45_764)));
     }
 
     #[test]

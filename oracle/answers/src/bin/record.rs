@@ -676,7 +676,7 @@ fn decode(out: &mut String) {
     for message in cases::long_messages(&mut r) {
         decode_line(out, &message, data_of(&message).map_or(0, |d| d.len()));
     }
-    decode_line(out, &cases::largest(), 45_761);
+    decode_line(out, &cases::largest(), 45_763);
 }
 
 /// A message of each type at every length.
