@@ -10,7 +10,7 @@ ghost use mathlib.Core.Bool.{_&&_};
 ghost use Prim.Native.Nat.{_+_, _-_, _*_, _^_, _≤_, _<_};
 ghost use lib.ListN.{length, take, drop};
 ghost use lib.Dec.{eqb, leb};
-ghost use Rattle.laws.specs.Bits.{valueOf, unpack};
+ghost use Rattle.laws.specs.Bits.{unpack};
 ghost use Rattle.laws.specs.Wrote.{Wrote};
 ghost use Rattle.ax25_aprs.specs.Coded.{orRefused};
 ghost use Rattle.ax25_aprs.specs.Text.{altitude, altitudeBits, frontBits, frontSize, textBits, altitudeText, codeText, codeSpan, readText};

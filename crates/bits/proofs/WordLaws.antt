@@ -9,7 +9,7 @@ use native.Mathlib.Numerals.{add-one}
 use native.Mathlib.Omega.{arith}
 use lib.ListN.{length, take, drop, length-drop}
 use lib.Seq.{drop-drop, take-add, take-at, drop-at, take-nil, take-take, length-take-le, sets}
-use Rattle.laws.specs.Bits.{Bytes, bitsOf, valueOf, fit, packN, unpack}
+use Rattle.laws.specs.Bits.{Bytes, bitsOf, valueOf, packN, unpack}
 use Rattle.laws.specs.Wrote.{Wrote}
 use Rattle.laws.proofs.BitLaws.{length-bits, value-bits, bits-append}
 use Rattle.laws.proofs.ByteLaws.{fit-take, length-packN, unpack-packN, bytes-packN, bytes-stored}

@@ -14,7 +14,8 @@ use Rattle.laws.specs.Pick.{pick}
 use Rattle.laws.proofs.Cases.{by-test, by-le, by-eq}
 use Rattle.crc.specs.Crc.{crcOf}
 use Rattle.refusals.specs.Limits.{fieldOk}
-use Rattle.refusals.specs.Outcome.{Outcome, refused, answer, accepted}
+use Rattle.refusals.specs.Outcome.{refused, answer, accepted}
+use Rattle.refusals.proofs.OutcomeLaws.{not-refused}
 use Rattle.frame.specs.Frame.{terminator, fillOf, bodyOf, controlByte, withCrc, frameOf, buildOf}
 use Rattle.frame.specs.declared.Control.{Control}
 
@@ -132,10 +133,6 @@ pub record Accepted (field : ℕ) (fragment : List ℕ) (control : Control) (mar
   pub reply-low : control .reply ≤ 3
   pub hint-low : control .hint ≤ 7
   pub is : buildOf field fragment control marker ≡ answer (frameOf field fragment control marker)
-
--- what is accepted was not refused
-not-refused : {A : Type 0} {o : Outcome A} {n : ℕ} → accepted o ≡ true → o ≡ refused n → ⊥
-not-refused a e = let z : false ≡ true = rw e at a in let y : _≡_ {A = ℕ} 0 1 = cc in omega arith
 
 pub build-accepted : (field : ℕ) (fragment : List ℕ) (control : Control) (marker : ℕ)
     → accepted (buildOf field fragment control marker) ≡ true

@@ -16,7 +16,7 @@ use Rattle.laws.proofs.ByteLaws.{length-pack}
 use Rattle.laws.proofs.Cases.{by-test}
 use Rattle.bits_write.specs.Text7.{text7Bits}
 use Rattle.bits_write.proofs.Text7Laws.{length-text7}
-use Rattle.refusals.specs.Outcome.{Outcome, refused, answer}
+use Rattle.refusals.specs.Outcome.{Outcome, answer}
 use Rattle.refusals.proofs.OutcomeLaws.{answer-not}
 use Rattle.ax25_address.specs.Types.{Text, Generic, callLen}
 use Rattle.ax25_address.specs.Classify.{anyHigh}

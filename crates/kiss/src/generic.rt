@@ -1,5 +1,4 @@
 // Generic bytes: `generic_encode` and `generic_decode` of the source.
-ghost use mathlib.Core.Path.{_≡_};
 ghost use Prim.Native.Nat.{_^_, _<_};
 ghost use lib.ListN.{length, getD, drop};
 ghost use Rattle.laws.specs.Wrote.{Wrote};

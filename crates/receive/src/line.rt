@@ -1,6 +1,6 @@
 // What is said of a frame: that more are to come, that it was dropped, the message that it finishes, a refusal or an error.
 ghost use mathlib.Core.Path.{_≡_};
-ghost use Prim.Native.Nat.{_+_, _*_, _^_, _≤_, _<_};
+ghost use Prim.Native.Nat.{_^_, _≤_, _<_};
 ghost use lib.ListN.{length};
 ghost use Rattle.laws.specs.Wrote.{Wrote};
 ghost use Rattle.kiss.specs.Codec.{decodeOf};

@@ -24,7 +24,7 @@ pub data Heard : Type 0 where
   more : Heard
   done : ℕ → List ℕ → Heard
 
--- the paper's number and values for each case of `Push`, with the store as the call leaves it
+-- document 01's number and values for each case of `Push`, with the store as the call leaves it
 abbrev pub heardOf : Push → List ℕ → Heard
 heardOf (Refused n) store = refused n
 heardOf Dropped store = dropped

@@ -17,7 +17,7 @@ freshOf mask = record { held = 0; nfrag = 0; count = 0; «crc_mask» = mask; ove
 unfoldable pub newOf : ℕ → Outcome Reassembler
 newOf mask = pick (maskOk mask) (answer (freshOf mask)) (refused 9)
 
--- the paper's number and value for each case of `Fresh`
+-- document 01's number and value for each case of `Fresh`
 abbrev pub madeOf : Fresh → Outcome Reassembler
 madeOf (Refused n) = refused n
 madeOf (Ready r) = answer r

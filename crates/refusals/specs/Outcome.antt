@@ -19,7 +19,7 @@ abbrev pub accepted : {A : Type 0} → Outcome A → Bool
 accepted (refused n) = false
 accepted (answer a) = true
 
--- the paper's number and value for each case of `Answer`: the refusal, or how many bytes were written
+-- document 01's number and value for each case of `Answer`: the refusal, or how many bytes were written
 abbrev pub outcomeOf : Answer → Outcome ℕ
 outcomeOf (Refused n) = refused n
 outcomeOf (Bytes n) = answer n

@@ -1,4 +1,5 @@
 pub mod TokenRoom
+pub mod SendRoom
 pub mod TextRoom
 pub mod BodyRoom
 pub mod HeadRoom

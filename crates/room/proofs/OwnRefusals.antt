@@ -1,4 +1,4 @@
--- The refusals of the coder and of the decoder, before a lent output is looked at, are never 6.
+-- The refusals of the calls, before a lent output is looked at, are never 6.
 -- Assumes nothing.
 use mathlib.Core.Path.{_≡_, refl, ap}
 use mathlib.Core.Bool.{Bool, true, false, _&&_}
@@ -15,6 +15,9 @@ use Rattle.bits_write.specs.Write.{topBits}
 use Rattle.bits.specs.Val.{valOf}
 use Rattle.refusals.specs.Outcome.{Outcome, refused, answer}
 use Rattle.refusals.proofs.OutcomeLaws.{answer-not, same-refusal}
+use Rattle.sender.specs.Send.{sendOf}
+use Rattle.frame.specs.declared.Control.{Control}
+use Rattle.frame.specs.Frame.{buildOf}
 use Rattle.ax25_token.specs.Token.{tokenBits}
 use Rattle.ax25_address.specs.Classify.{oneOf}
 use Rattle.ax25_address.specs.Parse.{Parsed, parseOf, typeOf}
@@ -184,3 +187,15 @@ some-own (header ∷ rest) = message-frame-own header rest
 pub decode-own : (m : List ℕ) → NotShort (decodeOf m)
 unfolding decodeOf
 decode-own m = either (ltb 5000 (length m)) (no 2 refl) (some-own m)
+
+-- ---- the sender and its frames
+
+pub send-own : (message : List ℕ) (field mask k : ℕ) → NotShort (sendOf message field mask k)
+unfolding sendOf
+send-own message field mask k =
+    either _ (no 8 refl)
+    (either _ (no 9 refl) (either _ (no 10 refl) (either _ (no 2 refl) (either _ (no 11 refl) (either _ (no 12 refl) (either _ (no 13 refl) (yes _)))))))
+
+pub build-own : (field : ℕ) (d : List ℕ) (control : Control) (marker : ℕ) → NotShort (buildOf field d control marker)
+unfolding buildOf
+build-own field d control marker = either _ (no 8 refl) (either _ (no 14 refl) (either _ (no 15 refl) (either _ (no 16 refl) (yes _))))

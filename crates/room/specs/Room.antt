@@ -1,4 +1,4 @@
--- The most bytes that the coder and the decoder answer, as the C header has them: "An output with the most bytes is never refused as too short."
+-- The most bytes that the calls answer, as the C header has them: "An output with the most bytes is never refused as too short."
 -- Assumes nothing.
 use mathlib.Core.Path.{_≡_}
 use Prim.Native.Nat.{ℕ}
@@ -11,6 +11,10 @@ mostDecoded = 45764
 -- "a message: the output of xara_encode"
 abbrev pub mostMessage : ℕ
 mostMessage = 5000
+
+-- "the field: a fragment has at most field bytes", and "a frame has field + 3 bytes"
+abbrev pub mostField : ℕ
+mostField = 512
 
 -- not 6: "lent output shorter than the answer"
 abbrev pub NotShort : {A : Type 0} → Outcome A → Type 0

@@ -1,34 +1,30 @@
 -- What the answers on the way from a line to its frames stand for.
 -- Assumes nothing.
 use mathlib.Core.Path.{_≡_, refl, sym, ap, _∙_}
-use mathlib.Core.Bool.{Bool, true, false}
+use mathlib.Core.Bool.{true}
 use mathlib.Core.List.{List, [], _∷_}
 use Prim.Native.Nat.{ℕ, suc, _+_, _-_, _≤_, _<_}
-use native.Mathlib.Nat.{zero-add, div-le-self}
+use native.Mathlib.Nat.{div-le-self}
 use native.Mathlib.Omega.{arith}
 use lib.ListN.{length, take}
-use lib.Seq.{sets}
 use lib.Dec.{ltb}
 use Rattle.laws.specs.Wrote.{Wrote}
 use borrow.Author.Tests.{not-false, lt-ltb, le-ltb, eq-eqb, ne-eqb}
 use Rattle.laws.specs.Bits as bits
 use Rattle.laws.specs.Pick.{pick}
 use Rattle.laws.specs.Text.{ascii, same}
-use Rattle.laws.proofs.Cases.{pick-true, pick-false, by-test, by-le}
-use Rattle.laws.proofs.ListLaws.{take-sets}
+use Rattle.laws.proofs.Cases.{pick-true, pick-false, by-le}
 use Rattle.laws.proofs.TextLaws.{eq-same, ne-same}
 use Rattle.laws.proofs.WroteLaws.{wrote-none, wrote-then}
 use Rattle.refusals.specs.declared.Answer.{Answer}
 use Rattle.refusals.specs.declared.Answer.the-variants.{Refused, Bytes}
-use Rattle.refusals.specs.Outcome.{Outcome, refused, answer, accepted, outcomeOf, left, into}
+use Rattle.refusals.specs.Outcome.{Outcome, refused, answer, outcomeOf, left, into}
 use Rattle.refusals.specs.Limits.{fieldOk}
-use Rattle.refusals.proofs.LimitLaws.{field-low, field-high}
-use Rattle.refusals.proofs.OutcomeLaws.{answer-not, same-answer, same-refusal, into-refused, into-short, into-fits}
-use Rattle.frame.specs.Frame.{frameOf, buildOf}
-use Rattle.frame.proofs.FrameLaws.{frame-length, build-accepted}
-use Rattle.sender.specs.Send.{ceiling, countOf, countFor, fragmentOf, sendOf}
+use Rattle.refusals.proofs.LimitLaws.{field-low}
+use Rattle.refusals.proofs.OutcomeLaws.{same-answer, past, told-bytes, told-refusal}
+use Rattle.frame.specs.Frame.{buildOf}
+use Rattle.sender.specs.Send.{ceiling, countOf, countFor, sendOf}
 use Rattle.sender.proofs.CountLaws.{count-one, count-many}
-use Rattle.sender.proofs.SplitLaws.{fragment-fits}
 use Rattle.ax25_address.specs.declared.classify.AprsType.{AprsType}
 use Rattle.ax25_address.specs.Kind.{typeNumber}
 use Rattle.kiss.specs.declared.Encoded.{Encoded}
@@ -38,6 +34,7 @@ use Rattle.kiss.specs.Told.{encodedOf, codeInto}
 use Rattle.kiss.proofs.CodeBounds.{code-bounds}
 use Rattle.kiss.proofs.TellLaws as Coding
 use Rattle.kiss.proofs.TellLaws.{told-answer, told-refused}
+use Rattle.room.proofs.SendRoom.{sent-fits, framed-fits}
 use Rattle.texts.specs.Hex.{hexOf, bytesOf, readOf}
 use Rattle.texts.specs.Part.{before, behind, pieceOf, withoutCr}
 use Rattle.texts.specs.Say.{commandOf, spelledOf, refusalLine, errorLine, readOr, lineRoom}
@@ -48,66 +45,7 @@ use Rattle.send.specs.declared.line.Sent.{Sent}
 use Rattle.send.specs.declared.line.Sent.the-variants as sent
 use Rattle.send.specs.Line.{plain, marker, framedOf, linedBy, framesOf, dataText, spelledText, lineText, Sends}
 
--- ---- an answer with a lent output
-
--- n bytes were written: the call's, at the front of the output t
-pub record Handed (o : Outcome (List ℕ)) (t : List ℕ) (n : ℕ) : Type 0 where
-  pub bytes : List ℕ
-  pub is : o ≡ answer bytes
-  pub front : take n t ≡ bytes
-
-module _ (out t : List ℕ) where
-  handed-by : (o : Outcome (List ℕ)) (n : ℕ) → left (answer n) t ≡ into o out → Handed o t n
-  handed-by (refused m) n e = absurd (answer-not (ap (λ x. x .outcome) (e ∙ into-refused m out)))
-  handed-by (answer v) n e =
-      by-le (length v) (length out)
-      (λ h.
-      let q = e ∙ into-fits v out h in
-      let size : n ≡ length v = same-answer (ap (λ x. x .outcome) q) in
-      record {
-        bytes = v;
-        is = refl;
-        front = ap (take n) (ap (λ x. x .out) q) ∙ ap (λ (k : ℕ). take k (sets out 0 v)) (size ∙ sym (zero-add (length v))) ∙ take-sets out 0 v (omega arith);
-      })
-      (λ h. absurd (answer-not (ap (λ x. x .outcome) (e ∙ into-short v out h))))
-
-  refused-by : (o : Outcome (List ℕ)) (n : ℕ) → left (refused n) t ≡ into o out → ((v : List ℕ) → o ≡ answer v → length v ≤ length out) → o ≡ refused n
-  refused-by (refused m) n e few = sym (ap refused (same-refusal (ap (λ x. x .outcome) (e ∙ into-refused m out))))
-  refused-by (answer v) n e few = absurd (answer-not (sym (ap (λ x. x .outcome) (e ∙ into-fits v out (few v refl)))))
-
-  pub told-bytes : (o : Outcome (List ℕ)) (r : Answer) (n : ℕ) → r ≡ Bytes n → left (outcomeOf r) t ≡ into o out → Handed o t n
-  told-bytes o r n told e = handed-by o n (ap (λ (x : Answer). left (outcomeOf x) t) (sym told) ∙ e)
-
-  told-refusal : (o : Outcome (List ℕ)) (r : Answer) (n : ℕ) → r ≡ Refused n → left (outcomeOf r) t ≡ into o out
-      → ((v : List ℕ) → o ≡ answer v → length v ≤ length out) → o ≡ refused n
-  told-refusal o r n told e few = refused-by o n (ap (λ (x : Answer). left (outcomeOf x) t) (sym told) ∙ e) few
-
--- ---- a frame has at most 515 bytes, a fragment at most 512
-
-accepted-is : {A : Type 0} {o : Outcome A} {a : A} → o ≡ answer a → accepted o ≡ true
-accepted-is e = rw e
-
-pub frame-few : (field : ℕ) (d v : List ℕ) → buildOf field d plain marker ≡ answer v → length v ≤ 515
-frame-few field d v e =
-    let ok = build-accepted field d plain marker (accepted-is e) in
-    let is : frameOf field d plain marker ≡ v = same-answer (sym (ok .is) ∙ e) in
-    omega (arith, ap length is, frame-length field d plain marker (ok .fits), field-high field (ok .ok))
-
--- a test that did not refuse
-past : {A : Type 0} (t : Bool) (n : ℕ) (rest : Outcome A) (a : A) → pick t (refused n) rest ≡ answer a → (t ≡ false) × (rest ≡ answer a)
-past t n rest a e =
-    by-test t
-    (λ h. absurd (answer-not (sym (sym (pick-true _ _ h) ∙ e))))
-    (λ h. (h, sym (pick-false _ _ h) ∙ e))
-
-pub fragment-few : (message : List ℕ) (field mask k : ℕ) (v : List ℕ) → sendOf message field mask k ≡ answer v → length v ≤ 512
-unfolding sendOf
-fragment-few message field mask k v e =
-    let field-is = past _ _ _ _ e in
-    let ok : fieldOk field ≡ true = not-false (fieldOk field) (field-is .0) in
-    let rest = past _ _ _ _ (past _ _ _ _ (past _ _ _ _ (past _ _ _ _ (past _ _ _ _ (past _ _ _ _ (field-is .1) .1) .1) .1) .1) .1) in
-    let is : fragmentOf message field mask k ≡ v = same-answer (rest .1) in
-    omega (arith, ap length is, fragment-fits message field mask (field-low field ok) k, field-high field ok)
+-- ---- how many fragments
 
 -- a message takes at most one fragment more than it has bytes
 ceiling-few : (a b : ℕ) → ceiling a b ≤ a + (b - 1)
@@ -131,16 +69,16 @@ count-few total field count e =
 module _ (field : ℕ) (d : List ℕ) where
   pub frame-refused : (out t : List ℕ) (r : Answer) (n : ℕ) → r ≡ Refused n → left (outcomeOf r) t ≡ into (buildOf field d plain marker) out → length out ≡ 515
       → (b : List ℕ) (at : ℕ) → Sends b at (buildOf field d plain marker) b (sent.Refused n)
-  frame-refused out t r n told e size b at = rw (told-refusal out t (buildOf field d plain marker) r n told e (λ v q. omega (arith, frame-few field d v q))) (refl, refl)
+  frame-refused out t r n told e size b at = rw (told-refusal out t (buildOf field d plain marker) r n told e (λ v q. omega (arith, framed-fits field d plain marker v q))) (refl, refl)
 
   module _ (out t : List ℕ) (r : Answer) (n : ℕ) (told : r ≡ Bytes n) (e : left (outcomeOf r) t ≡ into (buildOf field d plain marker) out) where
     pub frame-short : length (take n t) ≤ 515
-    frame-short = let h = told-bytes out t (buildOf field d plain marker) r n told e in rw (h .front) (frame-few field d (h .bytes) (h .is))
+    frame-short = let h = told-bytes out t (buildOf field d plain marker) r n told e in rw (h .front) (omega (arith, framed-fits field d plain marker (h .bytes) (h .is)))
 
     pub frame-lined : {b c g : List ℕ} {at p q : ℕ} → Wrote b at (hexOf (take n t)) c p → Wrote c p (10 ∷ []) g q → Sends b at (buildOf field d plain marker) g (sent.Next q)
     frame-lined w x =
         let h = told-bytes out t (buildOf field d plain marker) r n told e in
-        let few = frame-few field d (h .bytes) (h .is) in
+        let few = framed-fits field d plain marker (h .bytes) (h .is) in
         let hex : Wrote _ _ (hexOf (h .bytes)) _ _ = rw (h .front) at w in
         rw (h .is) (wrote-then hex x, omega (arith, hex .next-is, x .next-is, hex-length (h .bytes), few))
 
@@ -151,7 +89,7 @@ module _ (message : List ℕ) (field mask k : ℕ) where
       → (b : List ℕ) (at : ℕ) → Sends b at (framedOf field (sendOf message field mask k)) b (sent.Refused n)
   unfolding framedOf
   fragment-refused out t r n told e size b at =
-      rw (told-refusal out t (sendOf message field mask k) r n told e (λ v q. omega (arith, fragment-few message field mask k v q))) (refl, refl)
+      rw (told-refusal out t (sendOf message field mask k) r n told e (λ v q. omega (arith, sent-fits message field mask k v q))) (refl, refl)
 
   pub fragment-framed : (out t : List ℕ) (r : Answer) (n : ℕ) → r ≡ Bytes n → left (outcomeOf r) t ≡ into (sendOf message field mask k) out
       → (b g : List ℕ) (at : ℕ) (s : Sent) → Sends b at (buildOf field (take n t) plain marker) g s → Sends b at (framedOf field (sendOf message field mask k)) g s

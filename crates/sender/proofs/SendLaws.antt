@@ -1,7 +1,7 @@
 -- The cases of the sender's answers and of its fragments.
 -- Assumes nothing.
 use mathlib.Core.Bool.{true, false}
-use mathlib.Core.Path.{_≡_, refl, sym, ap, _∙_}
+use mathlib.Core.Path.{_≡_, refl, _∙_}
 use mathlib.Core.List.{List, _∷_}
 use Prim.Native.Nat.{ℕ, zero, suc, _+_, _-_, _*_, _≤_, _<_}
 use native.Mathlib.Omega.{arith}
@@ -13,6 +13,7 @@ use Rattle.laws.specs.Pick.{pick}
 use Rattle.laws.proofs.Cases.{by-test, by-le, pick-true, pick-false}
 use Rattle.refusals.specs.Limits.{fieldOk, maskOk}
 use Rattle.refusals.specs.Outcome.{refused, answer, accepted}
+use Rattle.refusals.proofs.OutcomeLaws.{not-refused}
 use Rattle.sender.specs.Send.{countOf, countFor, checkOf, leadOf, fragmentOf, mostOf, sendOf}
 use Rattle.sender.proofs.CountLaws.{count-one}
 
@@ -162,7 +163,4 @@ send-accepted message field mask acc =
     (λ f. no 8 (send-field message field mask 0 f))
   where
     no : (n : ℕ) → sendOf message field mask 0 ≡ refused n → Sendable message field mask
-    no n e = never (sym (ap accepted e) ∙ acc)
-      where
-        never : false ≡ true → Sendable message field mask
-        never z = let w : _≡_ {A = ℕ} 0 1 = cc in absurd (omega arith)
+    no n e = absurd (not-refused acc e)

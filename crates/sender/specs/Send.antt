@@ -30,7 +30,7 @@ countFor total field =
     (pick (ltb 5000 total) (refused 2)
     (answer (countOf total field)))
 
--- the paper's number and value for each case of `Counted`
+-- document 01's number and value for each case of `Counted`
 abbrev pub countedOf : Counted → Outcome ℕ
 countedOf (Refused n) = refused n
 countedOf (Count n) = answer n

@@ -9,7 +9,6 @@ ghost use Rattle.frame.specs.Frame.{buildOf};
 ghost use Rattle.receiver.specs.Join.{after, resetOf, joinOf};
 ghost use Rattle.receiver.specs.New.{newOf};
 ghost use Rattle.receiver.specs.Push.{pushOf};
-ghost use Rattle.ax25_address.specs.Kind.{typeNumber};
 ghost use Rattle.kiss.specs.Codec.{codeOf, summaryOf, decodeOf};
 ghost use Rattle.kiss.specs.Told.{codeInto, decodeInto};
 ghost use Rattle.xara.specs.Told.{flag, told, controlOf, receiverOf, freshOf, afterOf, toldEncoded, toldSummary, toldDecoded};

@@ -1,7 +1,6 @@
 -- `texts::show::put_one` meets its contract.
 -- Assumes nothing.
 use borrow.Author.Needs.{needs}
-use native.Mathlib.Omega.{arith}
 use Rattle.texts.proofs.ShowLaws.{shown-low, shown-high, shown-plain}
 use Rattle.texts.proofs.show.put_one.Statement.{statement}
 use Rattle.texts.proofs.show.put_one.Tie as tie
