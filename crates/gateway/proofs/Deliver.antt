@@ -1,11 +1,10 @@
 -- Demand 3, its second part, for messages that are any bytes the sender accepts: they are handed out, with idle calls anywhere between.
 -- Assumes nothing.
 use mathlib.Core.Path.{_≡_, refl, ap, ap₂, _∙_}
-use mathlib.Core.Bool.{Bool, true, false}
+use mathlib.Core.Bool.{true, false, false≢true}
 use mathlib.Core.List.{List, [], _∷_}
 use mathlib.Core.Option.{Option}
 use Prim.Native.Nat.{ℕ, _+_}
-use native.Mathlib.Omega.{arith}
 use lib.ListN.{length}
 use borrow.Author.Tests.{eq-eqb, ne-eqb, le-ltb}
 use Rattle.laws.specs.Pick.{pick}
@@ -21,9 +20,6 @@ use Rattle.gateway.proofs.Sim.{left-good, left-sim, run-sim, fresh-good
 use Rattle.gateway.proofs.Forget.{step-ends}
 use Rattle.gateway.proofs.Messages.{messages}
 
-never : _≡_ {A = Bool} false true → ⊥
-never e = let z : _≡_ {A = ℕ} 0 1 = cc in omega arith
-
 module _ (m : ℕ) where
   -- ---- idle calls change nothing
 
@@ -31,7 +27,7 @@ module _ (m : ℕ) where
   idle-join h f n e =
       by-eq n 0 (λ z. joinV-empty m h f n z)
       (λ z. by-le n (length f)
-      (λ l. absurd (never (simp (ne-eqb _ _ z, le-ltb _ _ l) at e)))
+      (λ l. absurd (false≢true (simp (ne-eqb _ _ z, le-ltb _ _ l) at e)))
       (λ l. joinV-past m h f n z l))
 
   idle-push : (h : Held) (f : List ℕ) (k : ℕ) → idle (push f k) ≡ true → stepV m h (push f k) ≡ out (pick (fieldOk k) dropped (refused 8)) h

@@ -1,7 +1,7 @@
 -- Answers and refusals are apart; the cases of an answer with a lent output.
 -- Assumes nothing.
 use mathlib.Core.Path.{_≡_, refl, sym, ap, _∙_}
-use mathlib.Core.Bool.{Bool, true, false}
+use mathlib.Core.Bool.{Bool, true, false, false≢true}
 use mathlib.Core.List.{List}
 use Prim.Native.Nat.{ℕ, _≤_, _<_}
 use native.Mathlib.Nat.{zero-add}
@@ -30,7 +30,7 @@ same-refusal e = cc
 
 -- what is accepted was not refused
 pub not-refused : {A : Type 0} {o : Outcome A} {n : ℕ} → accepted o ≡ true → o ≡ refused n → ⊥
-not-refused a e = let z : false ≡ true = rw e at a in let y : _≡_ {A = ℕ} 0 1 = cc in omega arith
+not-refused a e = false≢true (rw e at a)
 
 pub accepted-is : {A : Type 0} {o : Outcome A} {a : A} → o ≡ answer a → accepted o ≡ true
 accepted-is e = rw e
