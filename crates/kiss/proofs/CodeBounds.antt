@@ -17,7 +17,7 @@ use Rattle.laws.proofs.Cases.{by-test}
 use Rattle.bits_write.specs.Text7.{text7Bits}
 use Rattle.bits_write.proofs.Text7Laws.{length-text7}
 use Rattle.refusals.specs.Outcome.{Outcome, answer}
-use Rattle.refusals.proofs.OutcomeLaws.{answer-not}
+use Rattle.refusals.proofs.OutcomeLaws.{answer-not, past}
 use Rattle.ax25_address.specs.Types.{Text, Generic, callLen}
 use Rattle.ax25_address.specs.Classify.{anyHigh}
 use Rattle.ax25.specs.Decode.{readFrame}
@@ -81,9 +81,6 @@ header-command header rest r e =
     omega (arith, is, eqb-false (header / 16 % 4) 3 t)))
 
 pub decode-command : (m : List ℕ) (r : Decoded) → decodeOf m ≡ answer r → r .command ≤ 2
-unfolding decodeOf decodeSome pick
-decode-command [] r e = absurd (answer-not (sym e))
-decode-command (header ∷ rest) r e =
-    by-test (ltb 5000 (length (header ∷ rest)))
-    (λ t. absurd (answer-not (sym (rw t at e))))
-    (λ t. header-command header rest r (rw t at e))
+unfolding decodeOf decodeSome
+decode-command [] r e = absurd (answer-not (sym (past _ _ _ _ e .1)))
+decode-command (header ∷ rest) r e = header-command header rest r (past _ _ _ _ e .1)
