@@ -181,11 +181,19 @@ pub fn mask_of(n: u64) -> u8 {
     n as u8
 }
 
-// Writes the first n bytes, or says that there are fewer.
-pub fn print(out: &[u8], n: usize) {
+// Writes the first n bytes, or an error line where there are fewer. Whether all of it could be written; where not, that is said on standard error.
+pub fn print(out: &[u8], n: usize) -> bool {
     if out.len() < n {
-        io::write_all(1, b"error: no room for the answer\n");
-        return;
+        return put(b"error: no room for the answer\n");
     }
-    io::write_all(1, front(out, n));
+    put(front(out, n))
+}
+
+// Writes to standard output. Where that fails, says so on standard error.
+fn put(text: &[u8]) -> bool {
+    if io::write_all(1, text) {
+        return true;
+    }
+    io::write_all(2, b"error: the output can't be written\n");
+    false
 }

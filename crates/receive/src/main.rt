@@ -65,7 +65,7 @@ fn main() {
     }
 }
 
-// Answers every line.
+// Answers every line, as long as the answers can be written.
 fn lines(
     receiver: Reassembler,
     field: usize,
@@ -87,7 +87,9 @@ fn lines(
         }
         let said = answer(state, space, line, stand, field, data, out);
         state = said.receiver;
-        print(out, said.size);
+        if !print(out, said.size) {
+            return;
+        }
         turns -= 1;
     }
 }

@@ -34,7 +34,7 @@ fn main() {
     );
 }
 
-// Answers every line.
+// Answers every line, as long as the answers can be written.
 fn lines(field: usize, mask: u8, chunk: &mut [u8], line: &mut [u8], out: &mut [u8])
     requires { ⌜ (length (now chunk) < 2 ^ 60) × (length (now line) < 2 ^ 60) ⌝ }
 {
@@ -46,7 +46,9 @@ fn lines(field: usize, mask: u8, chunk: &mut [u8], line: &mut [u8], out: &mut [u
             return;
         }
         let n = answer(line, stand, field, mask, out);
-        print(out, n);
+        if !print(out, n) {
+            return;
+        }
         turns -= 1;
     }
 }

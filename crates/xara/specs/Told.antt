@@ -1,12 +1,12 @@
--- Document 01's number and values for each answer that crosses the C boundary.
+-- What crosses the C boundary. Each struct that a call hands back is defined whole from the call's answer: document 01's number and values for
+-- each case, and 0 in every field that has no meaning in that case.
 -- Assumes nothing.
-use mathlib.Core.Bool.{Bool, not}
+use mathlib.Core.Bool.{Bool, true, false, not}
 use mathlib.Core.List.{List}
 use Prim.Native.Nat.{ℕ}
-use lib.ListN.{take}
 use lib.Dec.{eqb}
-use Rattle.laws.specs.Pick.{pick}
-use Rattle.refusals.specs.Outcome.{Outcome, refused, answer}
+use Rattle.laws.specs.Bits.{num}
+use Rattle.refusals.specs.Outcome.{Outcome, refused, answer, Left}
 use Rattle.frame.specs.declared.Control.{Control}
 use Rattle.receiver.specs.Join.{After, Heard, dropped, more, done}
 use Rattle.receiver.specs.Join as join
@@ -21,43 +21,72 @@ use Rattle.xara.specs.declared.XaraEncoded.{XaraEncoded}
 use Rattle.xara.specs.declared.XaraSummary.{XaraSummary}
 use Rattle.xara.specs.declared.XaraDecoded.{XaraDecoded}
 
+-- ---- what C passes in
+
 -- a byte as a flag: every byte but 0 is true
 abbrev pub flag : ℕ → Bool
 flag b = not (eqb b 0)
 
--- a length or a count, or a refusal's number
-abbrev pub told : XaraAnswer → Outcome ℕ
-told a = pick (a .ok) (answer (a .value)) (refused (a .refusal))
-
+-- the control byte's parts
 abbrev pub controlOf : XaraControl → Control
 controlOf c = record { reply = c .reply; compressed = flag (c .compressed); hint = c .hint }
 
+-- a receiver's state
 abbrev pub receiverOf : XaraReceiver → Reassembler
 receiverOf r = record { held = r .held; nfrag = r .nfrag; count = r .count; «crc_mask» = r .«crc_mask»; overflow = flag (r .overflow) }
 
-abbrev pub freshOf : XaraFresh → Outcome Reassembler
-freshOf f = pick (f .ok) (answer (receiverOf (f .receiver))) (refused (f .refusal))
+-- ---- what C is handed back
 
--- 0 refused, 1 dropped, 2 more, 3 done
-abbrev pub heardOf : XaraPushed → List ℕ → Heard
-heardOf p store =
-    pick (eqb (p .kind) 0) (join.refused (p .refusal))
-    (pick (eqb (p .kind) 1) dropped
-    (pick (eqb (p .kind) 2) more
-    (done (p .length) (take (p .length) store))))
+-- a receiver's state; its overflow is 0 or 1
+abbrev pub toReceiver : Reassembler → XaraReceiver
+toReceiver r = record { held = r .held; nfrag = r .nfrag; count = r .count; «crc_mask» = r .«crc_mask»; overflow = num (r .overflow) }
 
-abbrev pub afterOf : XaraPushed → List ℕ → After
-afterOf p store = record { heard = heardOf p store; receiver = receiverOf (p .receiver); store = store }
+-- a length or a count, or a refusal's number
+abbrev pub toAnswer : Outcome ℕ → XaraAnswer
+toAnswer (refused n) = record { ok = false; refusal = n; value = 0 }
+toAnswer (answer v) = record { ok = true; refusal = 0; value = v }
 
--- the length and the type, or a refusal's number
-abbrev pub toldEncoded : XaraEncoded → Outcome (ℕ × ℕ)
-toldEncoded e = pick (e .ok) (answer (e .length, e .«aprs_type»)) (refused (e .refusal))
+-- the same beside the lent output afterwards
+abbrev pub toAnswerWith : Left → XaraAnswer × List ℕ
+toAnswerWith l = (toAnswer (l .outcome), l .out)
+
+-- a new receiver, or a refusal's number beside a receiver of zeros
+abbrev pub toFresh : Outcome Reassembler → XaraFresh
+toFresh (refused n) =
+    record { ok = false; refusal = n; receiver = record { held = 0; nfrag = 0; count = 0; «crc_mask» = 0; overflow = 0 } }
+toFresh (answer r) = record { ok = true; refusal = 0; receiver = toReceiver r }
+
+-- what a push or a join answers: kind 0 refused with its number, 1 dropped, 2 more, 3 done with the message's length. A refusal "changes
+-- nothing in the receiver": the very struct that came in is handed back. Else it is the state that the call leaves
+abbrev pub toPushed : XaraReceiver → Heard → Reassembler → XaraPushed
+toPushed came (join.refused n) left = record { kind = 0; refusal = n; length = 0; receiver = came }
+toPushed came dropped left = record { kind = 1; refusal = 0; length = 0; receiver = toReceiver left }
+toPushed came more left = record { kind = 2; refusal = 0; length = 0; receiver = toReceiver left }
+toPushed came (done n message) left = record { kind = 3; refusal = 0; length = n; receiver = toReceiver left }
+
+-- the same beside the store afterwards
+abbrev pub toPushedWith : XaraReceiver → After → XaraPushed × List ℕ
+toPushedWith came a = (toPushed came (a .heard) (a .receiver), a .store)
+
+-- the message's length and the data's type, or a refusal's number
+abbrev pub toEncoded : Outcome (ℕ × ℕ) → XaraEncoded
+toEncoded (refused n) = record { ok = false; refusal = n; «aprs_type» = 0; length = 0 }
+toEncoded (answer p) = record { ok = true; refusal = 0; «aprs_type» = p .1; length = p .0 }
+
+-- the same beside the lent output afterwards
+abbrev pub toEncodedWith : Outcome (ℕ × ℕ) × List ℕ → XaraEncoded × List ℕ
+toEncodedWith p = (toEncoded (p .0), p .1)
 
 -- the type, how many digipeaters, and whether control is 03, or a refusal's number
-abbrev pub toldSummary : XaraSummary → Outcome Summary
-toldSummary s =
-    pick (s .ok) (answer (record { typ = s .«aprs_type»; digis = s .digis; ui = s .ui })) (refused (s .refusal))
+abbrev pub toSummary : Outcome Summary → XaraSummary
+toSummary (refused n) = record { ok = false; refusal = n; «aprs_type» = 0; ui = false; digis = 0 }
+toSummary (answer s) = record { ok = true; refusal = 0; «aprs_type» = s .typ; ui = s .ui; digis = s .digis }
 
--- the length and the command, or a refusal's number
-abbrev pub toldDecoded : XaraDecoded → Outcome (ℕ × ℕ)
-toldDecoded d = pick (d .ok) (answer (d .length, d .command)) (refused (d .refusal))
+-- the data's length and the command, or a refusal's number
+abbrev pub toDecoded : Outcome (ℕ × ℕ) → XaraDecoded
+toDecoded (refused n) = record { ok = false; refusal = n; command = 0; length = 0 }
+toDecoded (answer p) = record { ok = true; refusal = 0; command = p .1; length = p .0 }
+
+-- the same beside the lent output afterwards
+abbrev pub toDecodedWith : Outcome (ℕ × ℕ) × List ℕ → XaraDecoded × List ℕ
+toDecodedWith p = (toDecoded (p .0), p .1)

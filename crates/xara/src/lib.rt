@@ -3,15 +3,16 @@ ghost use mathlib.Core.Path.{_≡_};
 ghost use mathlib.Core.List.{List};
 ghost use Prim.Native.Nat.{ℕ};
 ghost use Rattle.crc.specs.Crc.{crcOf};
-ghost use Rattle.refusals.specs.Outcome.{refused, answer, outcomeOf, left, into};
+ghost use Rattle.refusals.specs.Outcome.{refused, answer, outcomeOf, into};
 ghost use Rattle.sender.specs.Send.{countFor, sendOf};
 ghost use Rattle.frame.specs.Frame.{buildOf};
-ghost use Rattle.receiver.specs.Join.{after, resetOf, joinOf};
+ghost use Rattle.receiver.specs.Join.{heardOf, resetOf, joinOf};
 ghost use Rattle.receiver.specs.New.{newOf};
 ghost use Rattle.receiver.specs.Push.{pushOf};
 ghost use Rattle.kiss.specs.Codec.{codeOf, summaryOf, decodeOf};
 ghost use Rattle.kiss.specs.Told.{codeInto, decodeInto};
-ghost use Rattle.xara.specs.Told.{flag, told, controlOf, receiverOf, freshOf, afterOf, toldEncoded, toldSummary, toldDecoded};
+ghost use Rattle.xara.specs.Told.{controlOf, receiverOf, toReceiver, toAnswer, toAnswerWith, toFresh, toPushed, toPushedWith, toEncodedWith, toSummary, toDecodedWith};
+ghost use Rattle.laws.specs.Bits.{num};
 use ax25_address::classify::code;
 use frame::Control;
 use kiss::Decoded;
@@ -97,7 +98,7 @@ pub struct XaraDecoded {
 
 // A flag as a byte.
 fn byte(b: bool) -> u8
-    ensures { λ r. ⌜ flag r ≡ b ⌝ }
+    ensures { λ r. ⌜ r ≡ num b ⌝ }
 {
     if b {
         return 1;
@@ -106,7 +107,7 @@ fn byte(b: bool) -> u8
 }
 
 fn with_refusal(refusal: u8) -> XaraAnswer
-    ensures { λ r. ⌜ told r ≡ refused refusal ⌝ }
+    ensures { λ r. ⌜ r ≡ toAnswer (refused refusal) ⌝ }
 {
     XaraAnswer {
         ok: false,
@@ -116,7 +117,7 @@ fn with_refusal(refusal: u8) -> XaraAnswer
 }
 
 fn with_value(value: usize) -> XaraAnswer
-    ensures { λ r. ⌜ told r ≡ answer value ⌝ }
+    ensures { λ r. ⌜ r ≡ toAnswer (answer value) ⌝ }
 {
     XaraAnswer {
         ok: true,
@@ -127,7 +128,7 @@ fn with_value(value: usize) -> XaraAnswer
 
 // The answer of a call that writes bytes.
 fn said(answer: Answer) -> XaraAnswer
-    ensures { λ r. ⌜ told r ≡ outcomeOf answer ⌝ }
+    ensures { λ r. ⌜ r ≡ toAnswer (outcomeOf answer) ⌝ }
 {
     match answer {
         Answer::Refused(n) => with_refusal(n),
@@ -149,7 +150,7 @@ fn read(receiver: XaraReceiver) -> Reassembler
 }
 
 fn shown(receiver: Reassembler) -> XaraReceiver
-    ensures { λ r. ⌜ receiverOf r ≡ receiver ⌝ }
+    ensures { λ r. ⌜ r ≡ toReceiver receiver ⌝ }
 {
     XaraReceiver {
         held: receiver.held,
@@ -160,9 +161,9 @@ fn shown(receiver: Reassembler) -> XaraReceiver
     }
 }
 
-// What a push or a join answers.
-fn heard(pushed: Pushed) -> XaraPushed
-    ensures { λ r. ⌜ ((store : List ℕ) → afterOf r store ≡ after pushed store) ⌝ }
+// What a push or a join answers. Where it refuses, the receiver is the one that came in.
+fn heard(came: XaraReceiver, pushed: Pushed) -> XaraPushed
+    ensures { λ r. ⌜ ((store : List ℕ) → r ≡ toPushed came (heardOf (pushed .answer) store) (pushed .receiver)) ⌝ }
 {
     let answer = pushed.answer;
     let state = pushed.receiver;
@@ -172,7 +173,7 @@ fn heard(pushed: Pushed) -> XaraPushed
             kind: 0,
             refusal,
             length: 0,
-            receiver,
+            receiver: came,
         },
         Push::Dropped => XaraPushed {
             kind: 1,
@@ -206,7 +207,7 @@ pub extern "C" fn xara_crc16_genibus(data: &[u8]) -> u16
 // How many fragments a message of so many bytes takes.
 #[no_mangle]
 pub extern "C" fn xara_count_for_field(total: usize, field: usize) -> XaraAnswer
-    ensures { λ r. ⌜ told r ≡ countFor total field ⌝ }
+    ensures { λ r. ⌜ r ≡ toAnswer (countFor total field) ⌝ }
 {
     match sender::count_for_field(total, field) {
         Counted::Refused(n) => with_refusal(n),
@@ -223,7 +224,7 @@ pub extern "C" fn xara_fragment(
     k: usize,
     out: &mut [u8],
 ) -> XaraAnswer
-    ensures { λ r. ⌜ left (told r) (now (out .exit)) ≡ into (sendOf (now (message .entry)) field mask k) (now (out .entry)) ⌝ }
+    ensures { λ r. ⌜ (r, now (out .exit)) ≡ toAnswerWith (into (sendOf (now (message .entry)) field mask k) (now (out .entry))) ⌝ }
 {
     said(sender::fragment(message, field, mask, k, out))
 }
@@ -237,7 +238,7 @@ pub extern "C" fn xara_build_frame(
     marker: u8,
     out: &mut [u8],
 ) -> XaraAnswer
-    ensures { λ r. ⌜ left (told r) (now (out .exit)) ≡ into (buildOf field (now («data» .entry)) (controlOf control) marker) (now (out .entry)) ⌝ }
+    ensures { λ r. ⌜ (r, now (out .exit)) ≡ toAnswerWith (into (buildOf field (now («data» .entry)) (controlOf control) marker) (now (out .entry))) ⌝ }
 {
     let control = Control {
         reply: control.reply,
@@ -250,7 +251,7 @@ pub extern "C" fn xara_build_frame(
 // A receiver that holds nothing.
 #[no_mangle]
 pub extern "C" fn xara_receiver_new(crc_mask: u8) -> XaraFresh
-    ensures { λ r. ⌜ freshOf r ≡ newOf «crc_mask» ⌝ }
+    ensures { λ r. ⌜ r ≡ toFresh (newOf «crc_mask») ⌝ }
 {
     match Reassembler::with_crc_mask(crc_mask) {
         Fresh::Refused(refusal) => XaraFresh {
@@ -260,7 +261,7 @@ pub extern "C" fn xara_receiver_new(crc_mask: u8) -> XaraFresh
                 held: 0,
                 nfrag: 0,
                 count: 0,
-                crc_mask,
+                crc_mask: 0,
                 overflow: 0,
             },
         },
@@ -280,9 +281,9 @@ pub extern "C" fn xara_receiver_push(
     frame: &[u8],
     field: usize,
 ) -> XaraPushed
-    ensures { λ r. ⌜ afterOf r (now (store .exit)) ≡ pushOf (receiverOf receiver) (now (store .entry)) (now (frame .entry)) field ⌝ }
+    ensures { λ r. ⌜ (r, now (store .exit)) ≡ toPushedWith receiver (pushOf (receiverOf receiver) (now (store .entry)) (now (frame .entry)) field) ⌝ }
 {
-    heard(read(receiver).push(store, frame, field))
+    heard(receiver, read(receiver).push(store, frame, field))
 }
 
 // A fragment: the n first bytes of f.
@@ -293,15 +294,15 @@ pub extern "C" fn xara_receiver_join(
     f: &[u8],
     n: usize,
 ) -> XaraPushed
-    ensures { λ r. ⌜ afterOf r (now (store .exit)) ≡ joinOf (receiverOf receiver) (now (store .entry)) (now (f .entry)) n ⌝ }
+    ensures { λ r. ⌜ (r, now (store .exit)) ≡ toPushedWith receiver (joinOf (receiverOf receiver) (now (store .entry)) (now (f .entry)) n) ⌝ }
 {
-    heard(read(receiver).join(store, f, n))
+    heard(receiver, read(receiver).join(store, f, n))
 }
 
 // Nothing held, fragments 0, no overflow.
 #[no_mangle]
 pub extern "C" fn xara_receiver_reset(receiver: XaraReceiver) -> XaraReceiver
-    ensures { λ r. ⌜ receiverOf r ≡ resetOf (receiverOf receiver) ⌝ }
+    ensures { λ r. ⌜ r ≡ toReceiver (resetOf (receiverOf receiver)) ⌝ }
 {
     shown(read(receiver).reset())
 }
@@ -309,7 +310,7 @@ pub extern "C" fn xara_receiver_reset(receiver: XaraReceiver) -> XaraReceiver
 // The message that data is coded to.
 #[no_mangle]
 pub extern "C" fn xara_encode(command: u8, data: &[u8], out: &mut [u8]) -> XaraEncoded
-    ensures { λ r. ⌜ (toldEncoded r, now (out .exit)) ≡ codeInto (codeOf command (now («data» .entry))) (now (out .entry)) ⌝ }
+    ensures { λ r. ⌜ (r, now (out .exit)) ≡ toEncodedWith (codeInto (codeOf command (now («data» .entry))) (now (out .entry))) ⌝ }
 {
     match kiss::encode(command, data, out) {
         Encoded::Refused(refusal) => XaraEncoded {
@@ -330,7 +331,7 @@ pub extern "C" fn xara_encode(command: u8, data: &[u8], out: &mut [u8]) -> XaraE
 // What a frame is, before it is coded.
 #[no_mangle]
 pub extern "C" fn xara_summary(command: u8, data: &[u8]) -> XaraSummary
-    ensures { λ r. ⌜ toldSummary r ≡ summaryOf command (now («data» .entry)) ⌝ }
+    ensures { λ r. ⌜ r ≡ toSummary (summaryOf command (now («data» .entry))) ⌝ }
 {
     match kiss::summary(command, data) {
         Summarised::Refused(refusal) => XaraSummary {
@@ -356,7 +357,7 @@ pub extern "C" fn xara_summary(command: u8, data: &[u8]) -> XaraSummary
 // The data that a message was coded from.
 #[no_mangle]
 pub extern "C" fn xara_decode(message: &[u8], out: &mut [u8]) -> XaraDecoded
-    ensures { λ r. ⌜ (toldDecoded r, now (out .exit)) ≡ decodeInto (decodeOf (now (message .entry))) (now (out .entry)) ⌝ }
+    ensures { λ r. ⌜ (r, now (out .exit)) ≡ toDecodedWith (decodeInto (decodeOf (now (message .entry))) (now (out .entry))) ⌝ }
 {
     match kiss::decode(message, out) {
         Decoded::Refused(refusal) => XaraDecoded {

@@ -1,20 +1,9 @@
--- `xara::heard` meets its contract: each kind of answer has its number.
+-- `xara::heard` meets its contract: each kind of answer has its number, and where it is a refusal the receiver is the one that came in.
 -- Assumes nothing.
 use borrow.Author.Needs.{needs}
-use mathlib.Core.Path.{_≡_, sym, ap, _∙_}
-use mathlib.Core.List.{List}
-use Prim.Native.Nat.{ℕ}
-use Rattle.laws.specs.Pick.{pick}
-use Rattle.receiver.specs.Join.{after, answered}
-use Rattle.receiver.specs.declared.Push.{Push}
-use Rattle.receiver.specs.declared.Pushed.{Pushed}
-use Rattle.receiver.specs.declared.Reassembler.{Reassembler}
+use mathlib.Core.Path.{refl}
 use Rattle.xara.proofs.heard.Statement.{statement}
 use Rattle.xara.proofs.heard.Tie as tie
-
--- the answer and the receiver are those of the push
-same : {p : Pushed} {a : Push} {r : Reassembler} (store : List ℕ) → p .answer ≡ a → r ≡ p .receiver → answered a r store ≡ after p store
-same {p = p} {r = r} store e f = ap (λ (x : Push). answered x r store) (sym e) ∙ ap (λ (x : Reassembler). answered (p .answer) x store) f
 
 shown-requires : tie.Need-shown-requires
 shown-requires c κs = search needs
@@ -32,20 +21,16 @@ enum-known-answer-2 : tie.Need-enum-known-answer-2
 enum-known-answer-2 c = search needs
 
 returns : tie.Need-returns
-unfolding pick
-returns c store = same store (c .before .answer .given .1) (c .before .before .before .shown .ensures)
+returns c store = rw (c .before .answer .given .1) refl
 
 returns-2 : tie.Need-returns-2
-unfolding pick
-returns-2 c store = same store (c .enum-told .given .1) (c .before .before .shown .ensures)
+returns-2 c store = rw (c .before .before .shown .ensures, c .enum-told .given .1) refl
 
 returns-3 : tie.Need-returns-3
-unfolding pick
-returns-3 c store = same store (c .enum-told2 .given .1) (c .before .before .shown .ensures)
+returns-3 c store = rw (c .before .before .shown .ensures, c .enum-told2 .given .1) refl
 
 returns-4 : tie.Need-returns-4
-unfolding pick
-returns-4 c store = same store (c .before .answer2 .given .1) (c .before .before .before .shown .ensures)
+returns-4 c store = rw (c .before .before .before .shown .ensures, c .before .answer2 .given .1) refl
 
 pub heard-spec : {M : Type 1} → statement M
 heard-spec =

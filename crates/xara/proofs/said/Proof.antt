@@ -3,6 +3,7 @@
 use borrow.Author.Needs.{needs}
 use mathlib.Core.Path.{sym, ap, _∙_}
 use Rattle.refusals.specs.Outcome.{outcomeOf}
+use Rattle.xara.specs.Told.{toAnswer}
 use Rattle.xara.proofs.said.Statement.{statement}
 use Rattle.xara.proofs.said.Tie as tie
 
@@ -19,10 +20,10 @@ with-value-requires : tie.Need-with-value-requires
 with-value-requires c κs = search needs
 
 returns : tie.Need-returns
-returns c = c .with-refusal .ensures ∙ sym (ap outcomeOf (c .before .before .answer .given .1))
+returns c = c .with-refusal .ensures ∙ sym (ap toAnswer (ap outcomeOf (c .before .before .answer .given .1)))
 
 returns-2 : tie.Need-returns-2
-returns-2 c = c .with-value .ensures ∙ sym (ap outcomeOf (c .before .before .answer2 .given .1))
+returns-2 c = c .with-value .ensures ∙ sym (ap toAnswer (ap outcomeOf (c .before .before .answer2 .given .1)))
 
 pub said-spec : {M : Type 1} → statement M
 said-spec =

@@ -3,6 +3,7 @@
 use borrow.Author.Needs.{needs}
 use mathlib.Core.Path.{sym, ap, _∙_}
 use Rattle.sender.specs.Send.{countedOf}
+use Rattle.xara.specs.Told.{toAnswer}
 use Rattle.xara.proofs.xara_count_for_field.Statement.{statement}
 use Rattle.xara.proofs.xara_count_for_field.Tie as tie
 
@@ -23,11 +24,11 @@ with-value-requires c κs = search needs
 
 returns : tie.Need-returns
 returns c =
-    c .with-refusal .ensures ∙ sym (ap countedOf (c .before .before .n .given .1)) ∙ c .before .before .before .before .count-for-field .ensures
+    c .with-refusal .ensures ∙ ap toAnswer (sym (ap countedOf (c .before .before .n .given .1)) ∙ c .before .before .before .before .count-for-field .ensures)
 
 returns-2 : tie.Need-returns-2
 returns-2 c =
-    c .with-value .ensures ∙ sym (ap countedOf (c .before .before .n2 .given .1)) ∙ c .before .before .before .before .count-for-field .ensures
+    c .with-value .ensures ∙ ap toAnswer (sym (ap countedOf (c .before .before .n2 .given .1)) ∙ c .before .before .before .before .count-for-field .ensures)
 
 pub xara-count-for-field-spec : {M : Type 1} → statement M
 xara-count-for-field-spec =

@@ -4,6 +4,7 @@ use borrow.Author.Needs.{needs}
 use mathlib.Core.Path.{sym, ap, _∙_}
 use Rattle.laws.specs.Pick.{pick}
 use Rattle.kiss.specs.Told.{decodedOf}
+use Rattle.xara.specs.Told.{toDecodedWith}
 use Rattle.xara.proofs.ToldLaws.{beside}
 use Rattle.xara.proofs.xara_decode.Statement.{statement}
 use Rattle.xara.proofs.xara_decode.Tie as tie
@@ -23,7 +24,7 @@ same-length c = search needs
 returns : tie.Need-returns
 unfolding pick
 returns c =
-    beside (sym (ap decodedOf (c .before .refusal .given .1))) ∙ c .before .before .before .before .before .decode .ensures
+    ap toDecodedWith (beside (sym (ap decodedOf (c .before .refusal .given .1))) ∙ c .before .before .before .before .before .decode .ensures)
 
 same-length-2 : tie.Need-same-length-2
 same-length-2 c = search needs
@@ -31,7 +32,7 @@ same-length-2 c = search needs
 returns-2 : tie.Need-returns-2
 unfolding pick
 returns-2 c =
-    beside (sym (ap decodedOf (c .before .command .given .1))) ∙ c .before .before .before .before .before .decode .ensures
+    ap toDecodedWith (beside (sym (ap decodedOf (c .before .command .given .1))) ∙ c .before .before .before .before .before .decode .ensures)
 
 pub xara-decode-spec : {M : Type 1} → statement M
 xara-decode-spec =

@@ -4,6 +4,7 @@ use borrow.Author.Needs.{needs}
 use mathlib.Core.Path.{sym, ap, _∙_}
 use Rattle.laws.specs.Pick.{pick}
 use Rattle.kiss.specs.Told.{encodedOf}
+use Rattle.xara.specs.Told.{toEncodedWith}
 use Rattle.xara.proofs.ToldLaws.{beside, with-type}
 use Rattle.xara.proofs.xara_encode.Statement.{statement}
 use Rattle.xara.proofs.xara_encode.Tie as tie
@@ -26,7 +27,7 @@ same-length c = search needs
 returns : tie.Need-returns
 unfolding pick
 returns c =
-    beside (sym (ap encodedOf (c .before .refusal .given .1))) ∙ c .before .before .before .before .before .encode .ensures
+    ap toEncodedWith (beside (sym (ap encodedOf (c .before .refusal .given .1))) ∙ c .before .before .before .before .before .encode .ensures)
 
 same-length-2 : tie.Need-same-length-2
 same-length-2 c = search needs
@@ -34,7 +35,7 @@ same-length-2 c = search needs
 returns-2 : tie.Need-returns-2
 unfolding pick
 returns-2 c =
-    beside (with-type (c .code .ensures)) ∙ beside (sym (ap encodedOf (c .before .before .length .given .1))) ∙ c .before .before .before .before .before .before .encode .ensures
+    ap toEncodedWith (beside (with-type (c .code .ensures)) ∙ beside (sym (ap encodedOf (c .before .before .length .given .1))) ∙ c .before .before .before .before .before .before .encode .ensures)
 
 pub xara-encode-spec : {M : Type 1} → statement M
 xara-encode-spec =

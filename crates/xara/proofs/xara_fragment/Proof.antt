@@ -1,6 +1,9 @@
 -- `xara::xara_fragment` meets its contract.
 -- Assumes nothing.
 use borrow.Author.Needs.{needs}
+use mathlib.Core.Path.{ap, _∙_}
+use Rattle.xara.specs.Told.{toAnswerWith}
+use Rattle.xara.proofs.ToldLaws.{beside}
 use Rattle.xara.proofs.xara_fragment.Statement.{statement}
 use Rattle.xara.proofs.xara_fragment.Tie as tie
 
@@ -14,7 +17,7 @@ same-length : tie.Need-same-length
 same-length c = search needs
 
 returns : tie.Need-returns
-returns c = rw (c .said .ensures) (c .before .before .before .fragment .ensures)
+returns c = beside (c .said .ensures) ∙ ap toAnswerWith (c .before .before .before .fragment .ensures)
 
 pub xara-fragment-spec : {M : Type 1} → statement M
 xara-fragment-spec = tie.close (tie.spec fragment-requires said-requires same-length returns)

@@ -3,8 +3,8 @@
 use borrow.Author.Needs.{needs}
 use mathlib.Core.Path.{sym, ap, _∙_}
 use Rattle.laws.specs.Pick.{pick}
-use Rattle.refusals.specs.Outcome.{answer}
 use Rattle.receiver.specs.New.{madeOf}
+use Rattle.xara.specs.Told.{toFresh}
 use Rattle.xara.proofs.xara_receiver_new.Statement.{statement}
 use Rattle.xara.proofs.xara_receiver_new.Tie as tie
 
@@ -22,12 +22,12 @@ shown-requires c κs = search needs
 
 returns : tie.Need-returns
 unfolding pick
-returns c = sym (ap madeOf (c .before .refusal .given .1)) ∙ c .before .before .before .with-crc-mask .ensures
+returns c = ap (toFresh) (sym (ap madeOf (c .before .refusal .given .1)) ∙ c .before .before .before .with-crc-mask .ensures)
 
 returns-2 : tie.Need-returns-2
 unfolding pick
 returns-2 c =
-    ap answer (c .shown .ensures) ∙ sym (ap madeOf (c .before .before .receiver .given .1)) ∙ c .before .before .before .before .with-crc-mask .ensures
+    rw (c .shown .ensures) (ap (toFresh) (sym (ap madeOf (c .before .before .receiver .given .1)) ∙ c .before .before .before .before .with-crc-mask .ensures))
 
 pub xara-receiver-new-spec : {M : Type 1} → statement M
 xara-receiver-new-spec =

@@ -1,7 +1,9 @@
 -- `xara::xara_receiver_push` meets its contract.
 -- Assumes nothing.
 use borrow.Author.Needs.{needs}
-use mathlib.Core.Path.{_∙_}
+use mathlib.Core.Path.{ap, _∙_}
+use Rattle.xara.specs.Told.{toPushedWith}
+use Rattle.xara.proofs.ToldLaws.{beside}
 use Rattle.xara.proofs.xara_receiver_push.Statement.{statement}
 use Rattle.xara.proofs.xara_receiver_push.Tie as tie
 
@@ -20,7 +22,7 @@ same-length c = search needs
 returns : tie.Need-returns
 returns c =
     let p = c .before .before .before in
-    c .heard .ensures _ ∙ p .push .ensures ∙ rw (p .before .before .read .ensures)
+    beside (c .heard .ensures _) ∙ ap (toPushedWith _) (p .push .ensures) ∙ rw (p .before .before .read .ensures)
 
 pub xara-receiver-push-spec : {M : Type 1} → statement M
 xara-receiver-push-spec =

@@ -4,6 +4,7 @@ use borrow.Author.Needs.{needs}
 use mathlib.Core.Path.{sym, ap, _∙_}
 use Rattle.laws.specs.Pick.{pick}
 use Rattle.kiss.specs.Told.{summarisedOf}
+use Rattle.xara.specs.Told.{toSummary}
 use Rattle.xara.proofs.ToldLaws.{of-type}
 use Rattle.xara.proofs.xara_summary.Statement.{statement}
 use Rattle.xara.proofs.xara_summary.Tie as tie
@@ -22,12 +23,12 @@ code-requires c κs = search needs
 
 returns : tie.Need-returns
 unfolding pick
-returns c = sym (ap summarisedOf (c .before .refusal .given .1)) ∙ c .before .before .before .summary .ensures
+returns c = ap toSummary (sym (ap summarisedOf (c .before .refusal .given .1)) ∙ c .before .before .before .summary .ensures)
 
 returns-2 : tie.Need-returns-2
 unfolding pick
 returns-2 c =
-    of-type (c .code .ensures) ∙ sym (ap summarisedOf (c .before .before .facts .given .1)) ∙ c .before .before .before .before .summary .ensures
+    ap toSummary (of-type (c .code .ensures) ∙ sym (ap summarisedOf (c .before .before .facts .given .1)) ∙ c .before .before .before .before .summary .ensures)
 
 pub xara-summary-spec : {M : Type 1} → statement M
 xara-summary-spec =
