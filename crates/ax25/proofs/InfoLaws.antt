@@ -35,6 +35,7 @@ use Rattle.ax25_aprs.specs.Third.{thirdBits}
 use Rattle.ax25_aprs.specs.declared.part.Part.{Part}
 use Rattle.ax25_aprs.specs.declared.part.Part.the-variants.{Next}
 use Rattle.ax25_aprs.proofs.PartLaws.{does}
+use Rattle.ax25_body.specs.Read.{afterType}
 use Rattle.ax25.specs.Encode.{bodyBytes, infoBits}
 use Rattle.ax25.proofs.HeadCode.{from}
 
@@ -71,6 +72,11 @@ own-type kind.TimestampedPosition h = record { not-text = refl; not-binary = ref
 own-type kind.Message h = record { not-text = refl; not-binary = refl; not-third = refl; more = omega arith }
 own-type kind.ThirdParty h = absurd (omega (arith, own-place 5 h .1))
 
+-- they have a type byte
+after-own : (typ : ℕ) (d : List ℕ) → eqb typ Text ≡ false → afterType typ d ≡ drop 1 d
+unfolding afterType pick
+after-own typ d e = rw e
+
 -- ---- where the body starts
 
 module _ (command l : ℕ) (d : List ℕ) (s : Seen) (k : Known command l d s) where
@@ -101,10 +107,8 @@ module _ (command l : ℕ) (d : List ℕ) (s : Seen) (k : Known command l d s) w
     pub type-of : s .typ ≡ typeOf command p
     type-of = ap (λ (x : Seen). x .typ) (k .is) ∙ ap (typeOf command) same-parts
 
-    pub behind-type : from (end + 3) d ≡ drop 1 (p .info)
-    behind-type =
-        let f : end + 3 ≡ end + 2 + 1 = omega arith in
-        from-place d (end + 3) ∙ ap (λ (n : ℕ). drop n d) f ∙ sym (drop-drop 1 (end + 2) d) ∙ ap (drop 1) (sym info-is)
+    info-from : (start : ℕ) → start ≡ end + 2 → from start d ≡ p .info
+    info-from start f = from-place d start ∙ ap (λ (n : ℕ). drop n d) f ∙ sym info-is
 
     from-control : drop end d ≡ p .control ∷ p .pid ∷ p .info
     from-control =
@@ -151,12 +155,14 @@ module _ (command l : ℕ) (d : List ℕ) (s : Seen) (k : Known command l d s) w
           let typ : typeOf command p ≡ Binary = sym type-of ∙ t in
           rw typ (does (wrote-as (ap unpack (body-from start f)) w))
 
-      pub third-does : s .typ ≡ ThirdParty → (r : Part) → Does (thirdBits l (from (end + 3) d)) b at c r → Does (infoBits l p (typeOf command p) head) b at c r
+      pub third-does : s .typ ≡ ThirdParty → (start : ℕ) → start ≡ end + 2 → (r : Part) → Does (thirdBits l (drop 1 (from start d))) b at c r
+          → Does (infoBits l p (typeOf command p) head) b at c r
       unfolding infoBits pick
-      third-does t r w =
+      third-does t start f r w =
           let typ : typeOf command p ≡ ThirdParty = sym type-of ∙ t in
-          rw typ (rw behind-type at w)
+          rw typ (rw (info-from start f) at w)
 
-      pub own-does : Own (s .typ) → (r : Part) → Does (bodyBits (s .typ) l (from (end + 3) d)) b at c r → Does (infoBits l p (typeOf command p) head) b at c r
+      pub own-does : Own (s .typ) → (start : ℕ) → start ≡ end + 2 → (r : Part) → Does (bodyBits (s .typ) l (afterType (s .typ) (from start d))) b at c r
+          → Does (infoBits l p (typeOf command p) head) b at c r
       unfolding infoBits pick
-      own-does o r w = rw (← type-of, o .not-text, o .not-binary, o .not-third) (rw behind-type at w)
+      own-does o start f r w = rw (← type-of, o .not-text, o .not-binary, o .not-third) (rw (after-own (s .typ) (from start d) (o .not-text), info-from start f) at w)

@@ -185,12 +185,13 @@ fn put_body(frame: &[u8], command: u8, l: usize, r: Record, out: &mut [u8], at: 
     let n = r.digis;
     let typ = r.aprs_type;
     let end = addr_end(n, l);
-    let start = body_start(end, r.ctrl, r.pid);
+    let body = body_start(end, r.ctrl, r.pid);
+    let start = end + 2;
     match typ {
-        AprsType::Text => Part::Next(push_text7(out, at, false, &frame[start..])),
-        AprsType::Binary => Part::Next(push_bytes(out, at, &frame[start..])),
-        AprsType::ThirdParty => third_encode(&frame[end + 3..], l, out, at),
-        _ => aprs_encode(typ, &frame[end + 3..], l, out, at),
+        AprsType::Text => Part::Next(push_text7(out, at, false, &frame[body..])),
+        AprsType::Binary => Part::Next(push_bytes(out, at, &frame[body..])),
+        AprsType::ThirdParty => third_encode(&frame[start..], l, out, at),
+        _ => aprs_encode(typ, &frame[start..], l, out, at),
     }
 }
 

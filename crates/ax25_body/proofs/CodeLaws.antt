@@ -29,6 +29,7 @@ use Rattle.ax25_aprs.specs.declared.part.Part.the-variants.{Refused}
 use Rattle.ax25_aprs.proofs.PartLaws.{does-then}
 use Rattle.ax25_aprs.proofs.Sizes.{part-most}
 use Rattle.ax25_aprs.proofs.ValueLaws.{take-min}
+use Rattle.ax25_body.specs.Read.{afterType}
 use Rattle.ax25_body.proofs.BodyLaws.{Others, other-number}
 
 -- ---- parts of a slice that may be shorter
@@ -73,20 +74,20 @@ message-is l s x y e f = rw (e, f)
 -- ---- a body by its type
 
 module _ (t : AprsType) (l : ℕ) (s : List ℕ) where
-  pub code-text : t ≡ kind.Text → bodyBits (typeNumber t) l s ≡ orRefused 5 (textBits false s)
-  unfolding bodyBits pick
+  pub code-text : t ≡ kind.Text → bodyBits (typeNumber t) l (afterType (typeNumber t) s) ≡ orRefused 5 (textBits false s)
+  unfolding bodyBits afterType pick
   code-text e = rw e
 
-  pub code-position : t ≡ kind.Position → bodyBits (typeNumber t) l s ≡ latlonBits s
-  unfolding bodyBits pick
+  pub code-position : t ≡ kind.Position → bodyBits (typeNumber t) l (afterType (typeNumber t) s) ≡ latlonBits (drop 1 s)
+  unfolding bodyBits afterType pick
   code-position e = rw e
 
-  pub code-timestamped : t ≡ kind.TimestampedPosition → bodyBits (typeNumber t) l s ≡ timestampedBits s
-  unfolding bodyBits pick
+  pub code-timestamped : t ≡ kind.TimestampedPosition → bodyBits (typeNumber t) l (afterType (typeNumber t) s) ≡ timestampedBits (drop 1 s)
+  unfolding bodyBits afterType pick
   code-timestamped e = rw e
 
-  pub code-other : Others t → bodyBits (typeNumber t) l s ≡ messageBits l s
-  unfolding bodyBits pick
+  pub code-other : Others t → bodyBits (typeNumber t) l (afterType (typeNumber t) s) ≡ messageBits l (drop 1 s)
+  unfolding bodyBits afterType pick
   code-other h =
       let n = other-number t h in
       rw (ne-eqb (typeNumber t) Text (n .0), ne-eqb (typeNumber t) Position (n .1), ne-eqb (typeNumber t) TimestampedPosition (n .2))

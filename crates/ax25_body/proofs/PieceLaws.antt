@@ -27,7 +27,7 @@ use Rattle.ax25_aprs.specs.declared.third.Collected.{Collected}
 use Rattle.ax25_aprs.specs.declared.third.Collected.the-variants.{Found, Short}
 use Rattle.ax25_aprs.proofs.PartLaws.{does-then}
 use Rattle.ax25_aprs.proofs.Sizes.{part-most}
-use Rattle.ax25_body.specs.Read.{innerNumber, secondBits}
+use Rattle.ax25_body.specs.Read.{afterType, innerNumber, secondBits}
 use Rattle.ax25_body.specs.Pass.{Coded, Uncoded, Codes}
 use Rattle.ax25_body.specs.declared.third.Piece.{Piece}
 use Rattle.ax25_body.specs.declared.third.Piece.the-variants.{Next, Refused}
@@ -182,36 +182,21 @@ module _ (l : ℕ) where
   inner-short (c ∷ x ∷ d) h = absurd (omega arith)
 
   -- by the three tests
-  module _ (s y : List ℕ) where
-    abbrev byTests : Bool → Bool → Bool → Outcome (List Bool)
-    byTests a b e =
-        pick a (answer (bitsOf 2 0) then bodyBits Position l y)
-        (pick b (answer (bitsOf 2 1) then bodyBits TimestampedPosition l y)
-        (pick e (answer (bitsOf 2 2) then bodyBits Message l y) (answer (bitsOf 2 3) then bodyBits Text l s)))
+  module _ (s : List ℕ) where
+    tests-is : (a b e : Bool) (k : ℕ) → k ≡ pick a 0 (pick b 1 (pick e 2 3))
+        → pick a (answer (bitsOf 2 0) then bodyBits Position l (drop 1 s))
+        (pick b (answer (bitsOf 2 1) then bodyBits TimestampedPosition l (drop 1 s))
+        (pick e (answer (bitsOf 2 2) then bodyBits Message l (drop 1 s)) (answer (bitsOf 2 3) then bodyBits Text l s)))
+        ≡ (answer (bitsOf 2 k) then bodyBits (innerType l k) l (afterType (innerType l k) s))
+    unfolding pick afterType
+    tests-is true b e k h = rw h
+    tests-is false true e k h = rw h
+    tests-is false false true k h = rw h
+    tests-is false false false k h = rw h
 
-    tests-text : (a b e : Bool) (k : ℕ) → k ≡ pick a 0 (pick b 1 (pick e 2 3)) → k ≡ 3 → byTests a b e ≡ (answer (bitsOf 2 k) then bodyBits Text l s)
-    unfolding pick
-    tests-text true b e k h z = absurd (omega (arith, h, z))
-    tests-text false true e k h z = absurd (omega (arith, h, z))
-    tests-text false false true k h z = absurd (omega (arith, h, z))
-    tests-text false false false k h z = rw h
-
-    tests-typed : (a b e : Bool) (k : ℕ) → k ≡ pick a 0 (pick b 1 (pick e 2 3)) → (k ≡ 3 → ⊥) → byTests a b e ≡ (answer (bitsOf 2 k) then bodyBits (innerType l k) l y)
-    unfolding pick
-    tests-typed true b e k h z = rw h
-    tests-typed false true e k h z = rw h
-    tests-typed false false true k h z = rw h
-    tests-typed false false false k h z = absurd (z h)
-
-  pub inner-text : (d : List ℕ) → 2 ≤ length d → (k : ℕ) → k ≡ innerNumber d → k ≡ 3 → innerBits l d ≡ (answer (bitsOf 2 k) then bodyBits Text l d)
+  pub inner-is : (d : List ℕ) → 2 ≤ length d → (k : ℕ) → k ≡ innerNumber d
+      → innerBits l d ≡ (answer (bitsOf 2 k) then bodyBits (innerType l k) l (afterType (innerType l k) d))
   unfolding innerBits innerNumber
-  inner-text [] h k e z = absurd (omega arith)
-  inner-text (c ∷ []) h k e z = absurd (omega arith)
-  inner-text (c ∷ x ∷ d) h k e z = tests-text (c ∷ x ∷ d) (x ∷ d) (oneOf c 0x21 0x3D && isDigit x) (oneOf c 0x40 0x2F && isDigit x) (eqb c 0x3A) k e z
-
-  pub inner-typed : (d : List ℕ) → 2 ≤ length d → (k : ℕ) → k ≡ innerNumber d → (k ≡ 3 → ⊥)
-      → innerBits l d ≡ (answer (bitsOf 2 k) then bodyBits (innerType l k) l (drop 1 d))
-  unfolding innerBits innerNumber
-  inner-typed [] h k e z = absurd (omega arith)
-  inner-typed (c ∷ []) h k e z = absurd (omega arith)
-  inner-typed (c ∷ x ∷ d) h k e z = tests-typed (c ∷ x ∷ d) (x ∷ d) (oneOf c 0x21 0x3D && isDigit x) (oneOf c 0x40 0x2F && isDigit x) (eqb c 0x3A) k e z
+  inner-is [] h k e = absurd (omega arith)
+  inner-is (c ∷ []) h k e = absurd (omega arith)
+  inner-is (c ∷ x ∷ d) h k e = tests-is (c ∷ x ∷ d) (oneOf c 0x21 0x3D && isDigit x) (oneOf c 0x40 0x2F && isDigit x) (eqb c 0x3A) k e

@@ -4,16 +4,21 @@ use mathlib.Core.Bool.{Bool, _&&_}
 use mathlib.Core.List.{List, _∷_, _++_}
 use mathlib.Core.Option.{Option, some}
 use Prim.Native.Nat.{ℕ}
-use lib.ListN.{getD}
+use lib.ListN.{getD, drop}
 use lib.Dec.{eqb}
 use Rattle.laws.specs.Pick.{pick, _>>=_}
 use Rattle.laws.specs.Text.{ascii, isDigit}
 use Rattle.bits.specs.Read.{takeBits}
 use Rattle.refusals.specs.Outcome.{Outcome}
 use Rattle.ax25_address.specs.Classify.{oneOf}
+use Rattle.ax25_address.specs.Types.{Text}
 use Rattle.ax25_aprs.specs.LatLon.{readLatlon}
 use Rattle.ax25_aprs.specs.Body.{readBody}
 use Rattle.ax25_aprs.specs.Third.{collectOf, callField, pathField, innerType}
+
+-- a body without its type byte, which only a Text has not
+unfoldable pub afterType : ℕ → List ℕ → List ℕ
+afterType typ d = pick (eqb typ Text) d (drop 1 d)
 
 -- the number of the inner type, by its first two bytes
 unfoldable pub innerNumber : List ℕ → ℕ

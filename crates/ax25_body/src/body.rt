@@ -21,7 +21,7 @@ ghost use Rattle.ax25_token.specs.Token.{tokenBits};
 ghost use Rattle.ax25_address.specs.Kind.{typeNumber};
 ghost use Rattle.ax25_aprs.specs.Body.{callOf, messageBits, bodyBits, readMessage, readBody};
 ghost use Rattle.ax25_aprs.specs.Put.{Does, Reads};
-ghost use Rattle.ax25_body.specs.Read.{readPosition};
+ghost use Rattle.ax25_body.specs.Read.{afterType, readPosition};
 
 // The token of a call from its text, trimmed and in capitals.
 pub(crate) fn put_trimmed(s: &[u8], l: usize, out: &mut [u8], at: usize) -> Put
@@ -44,16 +44,16 @@ pub fn message_encode(s: &[u8], l: usize, out: &mut [u8], at: usize) -> Part
     text_encode(&s[m..], false, out, p)
 }
 
-// A body of a type behind its type byte.
+// A body of a type from its first byte on. The type byte, which only a Text has not, is dropped here.
 pub fn aprs_encode(typ: AprsType, s: &[u8], l: usize, out: &mut [u8], at: usize) -> Part
-    requires { ⌜ (length (now s) < 2 ^ 56) × (at < 2 ^ 59) × (2 ≤ l) × (l ≤ 7) ⌝ }
-    ensures { λ r. ⌜ Does (bodyBits (typeNumber typ) l (now (s .entry))) (unpack (now (out .entry))) at (unpack (now (out .exit))) r ⌝ }
+    requires { ⌜ (0 < length (now s)) × (length (now s) < 2 ^ 56) × (at < 2 ^ 59) × (2 ≤ l) × (l ≤ 7) ⌝ }
+    ensures { λ r. ⌜ Does (bodyBits (typeNumber typ) l (afterType (typeNumber typ) (now (s .entry)))) (unpack (now (out .entry))) at (unpack (now (out .exit))) r ⌝ }
 {
     match typ {
         AprsType::Text => text_encode(s, false, out, at),
-        AprsType::Position => ax25_aprs::latlon::latlon_encode(s, out, at),
-        AprsType::TimestampedPosition => ax25_aprs::body::timestamped_encode(s, out, at),
-        _ => message_encode(s, l, out, at),
+        AprsType::Position => ax25_aprs::latlon::latlon_encode(&s[1..], out, at),
+        AprsType::TimestampedPosition => ax25_aprs::body::timestamped_encode(&s[1..], out, at),
+        _ => message_encode(&s[1..], l, out, at),
     }
 }
 

@@ -59,7 +59,7 @@ fn inner_number(d: &[u8]) -> u64
     3
 }
 
-// The inner type in two bits, and the inner body, of which Text has its first byte.
+// The inner type in two bits, and the inner body.
 fn inner_encode(d: &[u8], l: usize, out: &mut [u8], at: usize) -> Part
     requires { ⌜ (length (now d) < 2 ^ 56) × (at < 2 ^ 58) × (2 ≤ l) × (l ≤ 7) ⌝ }
     ensures { λ r. ⌜ Does (innerBits l (now (d .entry))) (unpack (now (out .entry))) at (unpack (now (out .exit))) r ⌝ }
@@ -69,10 +69,7 @@ fn inner_encode(d: &[u8], l: usize, out: &mut [u8], at: usize) -> Part
     }
     let k = inner_number(d);
     let p = bits_write::push(out, at, k, 2);
-    if k == 3 {
-        return body::aprs_encode(AprsType::Text, d, l, out, p);
-    }
-    body::aprs_encode(inner_type(k), &d[1..], l, out, p)
+    body::aprs_encode(inner_type(k), d, l, out, p)
 }
 
 // The third call, up to '*', behind which one byte is skipped, and the inner body.
@@ -118,8 +115,8 @@ fn second_encode(d: &[u8], l: usize, out: &mut [u8], at: usize) -> Part
     }
 }
 
-// A third-party body behind its type byte: the first call, up to '>', and what follows it.
-pub fn third_encode(d: &[u8], l: usize, out: &mut [u8], at: usize) -> Part
+// The first call, up to '>', and what follows it.
+fn first_encode(d: &[u8], l: usize, out: &mut [u8], at: usize) -> Part
     requires { ⌜ (length (now d) < 2 ^ 56) × (at < 2 ^ 55) × (2 ≤ l) × (l ≤ 7) ⌝ }
     ensures { λ r. ⌜ Does (thirdBits l (now (d .entry))) (unpack (now (out .entry))) at (unpack (now (out .exit))) r ⌝ }
 {
@@ -127,6 +124,14 @@ pub fn third_encode(d: &[u8], l: usize, out: &mut [u8], at: usize) -> Part
         Piece::Refused(n) => Part::Refused(n),
         Piece::Next(i, p) => second_encode(&d[i..], l, out, p),
     }
+}
+
+// A third-party body from its type byte on, which is dropped here.
+pub fn third_encode(d: &[u8], l: usize, out: &mut [u8], at: usize) -> Part
+    requires { ⌜ (0 < length (now d)) × (length (now d) < 2 ^ 56) × (at < 2 ^ 55) × (2 ≤ l) × (l ≤ 7) ⌝ }
+    ensures { λ r. ⌜ Does (thirdBits l (drop 1 (now (d .entry)))) (unpack (now (out .entry))) at (unpack (now (out .exit))) r ⌝ }
+{
+    first_encode(&d[1..], l, out, at)
 }
 
 // The next bit and the next place behind a call that was read, or no call.

@@ -2,8 +2,8 @@
 -- Assumes nothing.
 use native.Mathlib.Omega.{arith}
 use mathlib.Core.Path.{_≡_, ap}
-use Prim.Native.Nat.{ℕ, _+_, _*_, _≤_}
-use lib.ListN.{length}
+use Prim.Native.Nat.{ℕ, _+_, _*_, _^_, _≤_, _<_}
+use lib.ListN.{length, length-drop}
 use lib.Dec.{eqb}
 use mathlib.Core.Bool.{_&&_}
 use mathlib.Core.List.{List}
@@ -13,11 +13,13 @@ use Rattle.ax25_address.specs.declared.record.Record.{Record}
 use Rattle.ax25_address.specs.declared.classify.AprsType.{AprsType}
 use Rattle.ax25_address.specs.declared.classify.AprsType.the-variants.{ThirdParty}
 use Rattle.laws.specs.Pick.{pick}
+use Rattle.laws.proofs.ListLaws.{from-place}
 use Rattle.ax25_address.specs.Kind.{typeNumber}
 use Rattle.ax25_address.specs.Parse.{parseOf}
 use Rattle.ax25_address.specs.Record.{recordOf, seenOf}
 use Rattle.ax25_address.proofs.DigiLaws.{end-size}
 use Rattle.ax25_address.proofs.RecordLaws.{Known, known}
+use Rattle.ax25.proofs.HeadCode.{from}
 use Rattle.ax25.proofs.InfoLaws.{own-type, typed-room, start-room, text-does, binary-does, third-does, own-does}
 use borrow.Author.Needs.{needs}
 use Rattle.ax25.proofs.encode.put_body.Statement.{statement}
@@ -42,8 +44,16 @@ module _ (command l : ℕ) (d : List ℕ) (r : Record) (is : some (recordOf r) �
   end-small : (end : ℕ) → l ≤ 7 → end ≡ (r .digis + 2) * (l + 1) → end ≤ 80
   end-small end h e = omega (arith, e, end-size (r .digis) l (seen .few) h)
 
+  -- the information of a type of its own has a first byte
   typed-within : (end : ℕ) → 2 ≤ typeNumber (r .«aprs_type») → end ≡ (r .digis + 2) * (l + 1) → end + 3 ≤ length d
   typed-within end h e = omega (arith, e, typed-room command l d (recordOf r) seen h)
+
+  typed-some : (end : ℕ) → 2 ≤ typeNumber (r .«aprs_type») → end ≡ (r .digis + 2) * (l + 1) → 0 < length (from (end + 2) d)
+  typed-some end h e = rw (from-place d (end + 2)) (omega (arith, typed-within end h e, length-drop (end + 2) d))
+
+-- a part is no longer than the whole
+part-small : (d : List ℕ) (n : ℕ) → length d ≤ 4999 → length (from n d) < 2 ^ 56
+part-small d n h = rw (from-place d n) (omega (arith, h, length-drop n d))
 
 addr-end-requires : tie.Need-addr-end-requires
 addr-end-requires c κs =
@@ -56,6 +66,12 @@ body-start-requires c κs =
     let start = c .before .before .before in
     let a = start .args in
     omega (arith, end-small (a .command) (a .l) (now (a .frame)) (a .r) (start .pre .4) _ (start .pre .1) (c .addr-end .ensures))
+
+add-start : tie.Need-add-start
+add-start c =
+    let start = c .before .before .before .before in
+    let a = start .args in
+    omega (arith, end-small (a .command) (a .l) (now (a .frame)) (a .r) (start .pre .4) _ (start .pre .1) (c .before .addr-end .ensures))
 
 enum-told : tie.Need-enum-told
 enum-told c = search needs
@@ -96,17 +112,11 @@ push-bytes-requires c κs = search needs
 enum-told-3 : tie.Need-enum-told-3
 enum-told-3 c = search needs
 
-add-third-encode : tie.Need-add-third-encode
-add-third-encode c =
-    let start = c .before .before .before .before .before .before in
-    let a = start .args in
-    omega (arith, end-small (a .command) (a .l) (now (a .frame)) (a .r) (start .pre .4) _ (start .pre .1) (c .before .before .before .addr-end .ensures))
-
 sub-third-encode : tie.Need-sub-third-encode
 sub-third-encode c =
     let start = c .before .before .before .before .before .before in
     let a = start .args in
-    typed-within (a .command) (a .l) (now (a .frame)) (a .r) (start .pre .4) _ (third-more _ (c .enum-told3 .given .1)) (c .before .before .before .addr-end .ensures)
+    omega (arith, typed-within (a .command) (a .l) (now (a .frame)) (a .r) (start .pre .4) _ (third-more _ (c .enum-told3 .given .1)) (c .before .before .before .addr-end .ensures))
 
 part-third-encode-start : tie.Need-part-third-encode-start
 part-third-encode-start c = sub-third-encode c
@@ -115,19 +125,22 @@ part-third-encode-end : tie.Need-part-third-encode-end
 part-third-encode-end c = search needs
 
 third-encode-requires : tie.Need-third-encode-requires
-third-encode-requires c κs = search needs
-
-add-aprs-encode : tie.Need-add-aprs-encode
-add-aprs-encode c =
-    let start = c .before .before .before .before .before in
+third-encode-requires c κs =
+    let start = c .before .before .before .before .before .before .before .before in
     let a = start .args in
-    omega (arith, end-small (a .command) (a .l) (now (a .frame)) (a .r) (start .pre .4) _ (start .pre .1) (c .before .before .addr-end .ensures))
+    let e = c .before .before .before .before .before .addr-end in (
+      typed-some (a .command) (a .l) (now (a .frame)) (a .r) (start .pre .4) (e .result) (third-more _ (c .before .before .enum-told3 .given .1)) (e .ensures),
+      part-small (now (a .frame)) (e .result + 2) (start .pre .2),
+      omega (arith, start .pre .3),
+      start .pre .0,
+      start .pre .1,
+    )
 
 sub-aprs-encode : tie.Need-sub-aprs-encode
 sub-aprs-encode c =
     let start = c .before .before .before .before .before in
     let a = start .args in
-    typed-within (a .command) (a .l) (now (a .frame)) (a .r) (start .pre .4) _ (own-type (a .r .«aprs_type») (c .match .keys4) .more) (c .before .before .addr-end .ensures)
+    omega (arith, typed-within (a .command) (a .l) (now (a .frame)) (a .r) (start .pre .4) _ (own-type (a .r .«aprs_type») (c .match .keys4) .more) (c .before .before .addr-end .ensures))
 
 part-aprs-encode-start : tie.Need-part-aprs-encode-start
 part-aprs-encode-start c = sub-aprs-encode c
@@ -136,7 +149,16 @@ part-aprs-encode-end : tie.Need-part-aprs-encode-end
 part-aprs-encode-end c = search needs
 
 aprs-encode-requires : tie.Need-aprs-encode-requires
-aprs-encode-requires c κs = search needs
+aprs-encode-requires c κs =
+    let start = c .before .before .before .before .before .before .before in
+    let a = start .args in
+    let e = c .before .before .before .before .addr-end in (
+      typed-some (a .command) (a .l) (now (a .frame)) (a .r) (start .pre .4) (e .result) (own-type (a .r .«aprs_type») (c .before .before .match .keys4) .more) (e .ensures),
+      part-small (now (a .frame)) (e .result + 2) (start .pre .2),
+      omega (arith, start .pre .3),
+      start .pre .0,
+      start .pre .1,
+    )
 
 same-length : tie.Need-same-length
 same-length c = search needs
@@ -171,7 +193,7 @@ returns-3 c = λ p head e at last.
     let a = start .args in
     let d = now (a .frame) in
     let k = known (a .command) (a .l) d (recordOf (a .r)) (start .pre .4) in
-    third-does (a .command) (a .l) d (recordOf (a .r)) k p e head _ (a .at) _ (ap typeNumber (c .before .before .before .before .before .enum-told3 .given .1)) _ (rw (c .before .before .before .before .before .before .before .before .addr-end .ensures) at (c .before .before .third-encode .ensures))
+    third-does (a .command) (a .l) d (recordOf (a .r)) k p e head _ (a .at) _ (ap typeNumber (c .before .before .before .before .before .enum-told3 .given .1)) (c .before .before .before .before .before .before .before .before .addr-end .result + 2) (ap (λ (n : ℕ). n + 2) (c .before .before .before .before .before .before .before .before .addr-end .ensures)) _ (c .before .before .third-encode .ensures)
 
 same-length-4 : tie.Need-same-length-4
 same-length-4 c = search needs
@@ -182,7 +204,7 @@ returns-4 c = λ p head e at last.
     let a = start .args in
     let d = now (a .frame) in
     let k = known (a .command) (a .l) d (recordOf (a .r)) (start .pre .4) in
-    own-does (a .command) (a .l) d (recordOf (a .r)) k p e head _ (a .at) _ (own-type (a .r .«aprs_type») (c .before .before .before .before .before .match .keys4)) _ (rw (c .before .before .before .before .before .before .before .addr-end .ensures) at (c .before .before .aprs-encode .ensures))
+    own-does (a .command) (a .l) d (recordOf (a .r)) k p e head _ (a .at) _ (own-type (a .r .«aprs_type») (c .before .before .before .before .before .match .keys4)) (c .before .before .before .before .before .before .before .addr-end .result + 2) (ap (λ (n : ℕ). n + 2) (c .before .before .before .before .before .before .before .addr-end .ensures)) _ (c .before .before .aprs-encode .ensures)
 
 pub put-body-spec : {M : Type 1} → statement M
 put-body-spec =
@@ -190,6 +212,7 @@ put-body-spec =
     (tie.spec
     addr-end-requires
     body-start-requires
+    add-start
     enum-told
     sub-push-text7
     part-push-text7-start
@@ -201,12 +224,10 @@ put-body-spec =
     part-push-bytes-end
     push-bytes-requires
     enum-told-3
-    add-third-encode
     sub-third-encode
     part-third-encode-start
     part-third-encode-end
     third-encode-requires
-    add-aprs-encode
     sub-aprs-encode
     part-aprs-encode-start
     part-aprs-encode-end
