@@ -118,7 +118,7 @@ mod tests {
     /// Of each text white space is accepted at its edges and the bytes beside it are refused; that of an altitude is less.
     #[test]
     fn white_space_and_its_neighbours() {
-        for place in 1..PLAIN.len() {
+        for place in 0..PLAIN.len() {
             for c in 0..0x21 {
                 for (front, back) in [(&[c][..], &[][..]), (&[], &[c])] {
                     let mut texts = PLAIN.map(<[u8]>::to_vec);
