@@ -10,11 +10,12 @@ use answers::{FIELDS, MASKS, MAX_MESSAGE, most};
 
 pub fn crc(r: &mut Random, tally: &mut Tally) {
     let n = r.below(6001);
-    let mut data = Input::new(&r.bytes(n));
-    let ours = xara::crc(&mut data.lent[..]);
-    let expected = Row { answer: answers::crc(&data.kept), written: &[], read: &data.kept };
-    let ours = Row { answer: ours, written: &[], read: &data.lent };
-    tally.compare(Kind::Crc, expected, ours, || format!("crc {}", to_hex(&data.kept)));
+    let data = r.bytes(n);
+    let mut input = Input::new(&data);
+    let ours = xara::crc(&mut input.lent[..]);
+    let expected = Row { answer: answers::crc(&data), written: &[], read: &data };
+    let ours = Row { answer: ours, written: &[], read: &input.lent };
+    tally.compare(Kind::Crc, expected, ours, || format!("crc {}", to_hex(&data)));
 }
 
 /// Every total to 5,002 with every field to 514.
@@ -76,7 +77,6 @@ fn lengths(field: usize, mask: u8, r: &mut Random) -> Vec<usize> {
 fn fragments_of(message: &[u8], field: usize, mask: u8, r: &mut Random, tally: &mut Tally) {
     let split = answers::sent(message, field, mask, most(mask));
     let count = split.as_ref().map_or(1, Vec::len);
-    let mut message = Input::new(message);
     for k in (0..count + 2).chain([r.number() as usize, usize::MAX]) {
         let expected = match &split {
             Err(refusal) => Err(*refusal),
@@ -85,7 +85,7 @@ fn fragments_of(message: &[u8], field: usize, mask: u8, r: &mut Random, tally: &
         let exact = expected.map_or(field.min(512), <[u8]>::len);
         let rooms = [0, exact.saturating_sub(1), exact, exact + 1 + r.below(40)];
         let number = Number { field, mask, k };
-        fragment(Kind::Fragment, &mut message, number, expected, rooms.map(|room| Lent::new(r, room)), tally);
+        fragment(Kind::Fragment, message, number, expected, rooms.map(|room| Lent::new(r, room)), tally);
     }
 }
 
@@ -100,23 +100,22 @@ pub struct Number {
 /// A fragment with these outputs, and whether all is as expected.
 pub fn fragment(
     kind: Kind,
-    message: &mut Input,
+    message: &[u8],
     number: Number,
     expected: Result<&[u8], u8>,
     outputs: impl IntoIterator<Item = Lent>,
     tally: &mut Tally,
 ) -> bool {
     let Number { field, mask, k } = number;
-    let text = message.kept.clone();
-    let mut call = Writing {
+    let call = Writing {
         kind,
-        input: message,
+        input: Input::new(message),
         expected,
         answer: &Answer::of,
         call: &|message, out| xara::fragment(message, field, mask, k, out),
-        told: &|| format!("split {field} {mask:02X} {}\nfragment {k}", to_hex(&text)),
+        told: &|| format!("split {field} {mask:02X} {}\nfragment {k}", to_hex(message)),
     };
-    outputs.into_iter().fold(true, |same, out| call.compare(out, tally) && same)
+    call.compare(outputs, tally)
 }
 
 /// Frames of this field with every reply to 4 and every hint to 8.
@@ -163,15 +162,15 @@ pub fn framed(
     let Control { reply, compressed, hint } = control;
     let compressed = u8::from(compressed != 0);
     let expected = answers::framed(field, data, reply, compressed == 1, hint, marker);
-    let mut call = Writing {
+    let call = Writing {
         kind,
-        input: &mut Input::new(data),
+        input: Input::new(data),
         expected: expected.as_deref().map_err(|&refusal| refusal),
         answer: &Answer::of,
         call: &|data, out| xara::frame(field, data, control, marker, out),
         told: &|| format!("frame {field} {reply} {compressed} {hint} {marker:02X} {}", to_hex(data)),
     };
-    let same = outputs.into_iter().fold(true, |same, out| call.compare(out, tally) && same);
+    let same = call.compare(outputs, tally);
     if same { expected.ok() } else { None }
 }
 
@@ -186,7 +185,7 @@ pub fn every_room(field: usize, r: &mut Random, tally: &mut Tally) {
     let k = r.below(split.as_ref().map_or(1, Vec::len));
     let expected = split.as_ref().map(|list| &list[k][..]).map_err(|&refusal| refusal);
     let rooms: Vec<Lent> = (0..=expected.map_or(field, <[u8]>::len) + 1).map(|room| Lent::new(r, room)).collect();
-    fragment(Kind::Fragment, &mut Input::new(&message), Number { field, mask, k }, expected, rooms, tally);
+    fragment(Kind::Fragment, &message, Number { field, mask, k }, expected, rooms, tally);
     let control = Control { reply: r.below(4) as u8, compressed: r.byte(), hint: r.below(8) as u8 };
     let rooms: Vec<Lent> = (0..=field + 4).map(|room| Lent::new(r, room)).collect();
     let head = Head { field, control, marker: 0x01 };

@@ -35,11 +35,11 @@ fn both(command: u8, data: &[u8], r: &mut Random, tally: &mut Tally) {
     tally.coded(value(&expected));
     let outputs = some_rooms(&expected, data.len(), r);
     encoded(Kind::Encode, command, data, &expected, outputs, tally);
-    let mut data = Input::new(data);
-    let ours = xara::summary(command, &mut data.lent[..]);
-    let expected = Row { answer: Summary::of(answers::summary(command, &data.kept)), written: &[], read: &data.kept };
-    let ours = Row { answer: ours, written: &[], read: &data.lent };
-    tally.compare(Kind::Summary, expected, ours, || format!("parse {command} {}", to_hex(&data.kept)));
+    let mut input = Input::new(data);
+    let ours = xara::summary(command, &mut input.lent[..]);
+    let expected = Row { answer: Summary::of(answers::summary(command, data)), written: &[], read: data };
+    let ours = Row { answer: ours, written: &[], read: &input.lent };
+    tally.compare(Kind::Summary, expected, ours, || format!("parse {command} {}", to_hex(data)));
 }
 
 /// Some message, decoded.
@@ -128,26 +128,26 @@ pub fn encoded(
     outputs: Vec<Lent>,
     tally: &mut Tally,
 ) -> bool {
-    let mut call = Writing {
+    let call = Writing {
         kind,
-        input: &mut Input::new(data),
+        input: Input::new(data),
         expected: bytes(expected),
         answer: &|written| Encoded::of(written.and_then(|n| value(expected).map(|aprs_type| (n, aprs_type)))),
         call: &|data, out| xara::encode(command, data, out),
         told: &|| format!("encode {command} {}", to_hex(data)),
     };
-    outputs.into_iter().fold(true, |same, out| call.compare(out, tally) && same)
+    call.compare(outputs, tally)
 }
 
 /// A message decoded with these outputs, and whether all is as expected.
 pub fn decoded(kind: Kind, message: &[u8], expected: &Expected, outputs: Vec<Lent>, tally: &mut Tally) -> bool {
-    let mut call = Writing {
+    let call = Writing {
         kind,
-        input: &mut Input::new(message),
+        input: Input::new(message),
         expected: bytes(expected),
         answer: &|written| Decoded::of(written.and_then(|n| value(expected).map(|command| (n, command)))),
         call: &|message, out| xara::decode(message, out),
         told: &|| format!("decode {}", to_hex(message)),
     };
-    outputs.into_iter().fold(true, |same, out| call.compare(out, tally) && same)
+    call.compare(outputs, tally)
 }

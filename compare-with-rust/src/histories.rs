@@ -45,7 +45,7 @@ fn traffic(pair: &mut Pair, mask: u8, r: &mut Random, tally: &mut Tally) {
         } else {
             heard(pair, fragment, sender.field, r, tally);
         }
-        sometimes_state(pair, r, tally);
+        state(pair, r, tally);
     }
 }
 
@@ -75,17 +75,15 @@ fn run(pair: &mut Pair, fragments: Vec<Vec<u8>>, field: usize, r: &mut Random, t
         } else {
             heard(pair, fragment, field, r, tally);
         }
-        if r.below(64) == 0 {
-            pair.state(tally);
-        }
+        state(pair, r, tally);
     }
     pair.state(tally);
 }
 
-/// Frames and fragments of any bytes, of small fields.
+/// Frames and fragments of any bytes, of small fields, one of which is refused.
 fn any_bytes(pair: &mut Pair, r: &mut Random, tally: &mut Tally) {
     for _ in 0..60 {
-        let field = 3 + r.below(6);
+        let field = 2 + r.below(7);
         let size = r.below(9);
         let alphabets: [&[u8]; 3] = [&[0x14, 0x00, 0x80, 0x94], &[0x14, 0x41, 0xC1, 0x01], &[0xFF, 0x80, 0x7F, 0x14]];
         let alphabet = alphabets[r.below(3)];
@@ -101,7 +99,7 @@ fn any_bytes(pair: &mut Pair, r: &mut Random, tally: &mut Tally) {
             pair.reset(tally);
         }
         pair.show_overflow(r.byte());
-        sometimes_state(pair, r, tally);
+        state(pair, r, tally);
     }
 }
 
@@ -116,35 +114,15 @@ fn heard(pair: &mut Pair, fragment: Vec<u8>, field: usize, r: &mut Random, tally
 /// A fragment that comes damaged, cut, not at all or twice, in a frame of another length, with another field, or with
 /// something else in its place.
 fn fault(pair: &mut Pair, mut fragment: Vec<u8>, field: usize, r: &mut Random, tally: &mut Tally) {
-    let mut frame = framed(&fragment, field, r);
+    let frame = framed(&fragment, field, r);
     match r.below(14) {
         0 => {}
         1 => {
             pair.push(field, &frame, tally);
             pair.push(field, &frame, tally);
         }
-        2 | 3 => {
-            for _ in 0..1 + r.below(3) {
-                let at = r.below(frame.len());
-                frame[at] ^= 1 << r.below(8);
-            }
-            pair.push(field, &frame, tally);
-        }
-        4 => {
-            frame.truncate(r.below(frame.len()));
-            pair.push(field, &frame, tally);
-        }
-        5 => {
-            let more = 1 + r.below(5);
-            frame.extend(r.bytes(more));
-            pair.push(field, &frame, tally);
-        }
-        6 => pair.push([0, 1, 2, 513, 514, 515, usize::MAX, field + 1, field - 1][r.below(9)], &frame, tally),
-        7 => {
-            let at = r.below(field);
-            frame[at] = 0x14;
-            pair.push(field, &frame, tally);
-        }
+        2..7 => pair.push(field, &damaged(frame, field, r), tally),
+        7 => pair.push([0, 1, 2, 513, 514, 515, usize::MAX, field + 1, field - 1][r.below(9)], &frame, tally),
         8 => pair.join([0, fragment.len() + 1, usize::MAX][r.below(3)], &fragment, tally),
         9 => pair.join(1 + r.below(fragment.len()), &fragment, tally),
         10 => {
@@ -162,15 +140,35 @@ fn fault(pair: &mut Pair, mut fragment: Vec<u8>, field: usize, r: &mut Random, t
     pair.show_overflow(r.byte());
 }
 
+/// A frame with some bits changed, with bytes cut off or added, or with a 14 in its field.
+fn damaged(mut frame: Vec<u8>, field: usize, r: &mut Random) -> Vec<u8> {
+    match r.below(5) {
+        0 | 1 => {
+            for _ in 0..1 + r.below(3) {
+                let at = r.below(frame.len());
+                frame[at] ^= 1 << r.below(8);
+            }
+        }
+        2 => frame.truncate(r.below(frame.len())),
+        3 => {
+            let more = 1 + r.below(5);
+            frame.extend(r.bytes(more));
+        }
+        _ => frame[r.below(field)] = 0x14,
+    }
+    frame
+}
+
 /// The source's frame of a fragment; a marker of 14, which we refuse, is among those heard.
 fn framed(fragment: &[u8], field: usize, r: &mut Random) -> Vec<u8> {
     let (reply, hint) = (r.below(4) as u8, r.below(8) as u8);
     answers::frame(field, fragment, reply, r.below(2) == 0, hint, r.byte())
 }
 
-/// The state is slow to read where much is held.
-fn sometimes_state(pair: &Pair, r: &mut Random, tally: &mut Tally) {
-    if r.below(if pair.held() < 100 { 8 } else { 200 }) == 0 {
+/// Our state against the source's own: always where few bytes are held, and now and then where many are, since reading
+/// it is slow then. With the state that the rules have ours is compared after every call.
+fn state(pair: &Pair, r: &mut Random, tally: &mut Tally) {
+    if pair.held() < 200 || r.below(100) == 0 {
         pair.state(tally);
     }
 }
@@ -270,7 +268,7 @@ impl MadeUp {
         let ours = call.on(before, &mut self.store, &mut input);
         (self.ours, self.state) = (ours.receiver, state);
         tally.made_up(answer);
-        let expected = Row { answer: Pushed::of(answer, state), written: &self.expected, read: &input.kept };
+        let expected = Row { answer: Pushed::of(answer, state), written: &self.expected, read: input.kept };
         let ours = Row { answer: ours, written: &self.store, read: &input.lent };
         tally.compare(Kind::MadeUp, expected, ours, || {
             format!("{before:?}\nstore of {}, {call:02X?}", self.store.len())

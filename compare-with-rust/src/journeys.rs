@@ -1,10 +1,10 @@
-//! Journeys: data is coded, cut into fragments, framed, heard or not, joined and decoded. Each call gets what the call before
-//! it answered, which is the same on both sides, or the journey ends there.
+//! Journeys: data is coded, cut into fragments, framed, heard or not, joined and decoded. Each call gets what the call
+//! before it answered, which is the same on both sides, or the journey ends there.
 
 use crate::calls::{self, Head, Number};
 use crate::codings;
 use crate::histories;
-use crate::lent::{Input, Lent};
+use crate::lent::Lent;
 use crate::receiver::Pair;
 use crate::rules::Call;
 use crate::tally::{Kind, Tally};
@@ -69,11 +69,10 @@ impl Journey {
         let (field, mask) = (self.head.field, self.mask);
         let mut same = calls::count(Kind::Journey, message.len(), field, tally);
         let split = answers::sent(message, field, mask, most(mask));
-        let mut message = Input::new(message);
         for k in 0..split.as_ref().map_or(1, Vec::len) {
             let expected = split.as_ref().map(|list| &list[k][..]).map_err(|&refusal| refusal);
             let out = [Lent::new(r, field)];
-            same &= calls::fragment(Kind::Journey, &mut message, Number { field, mask, k }, expected, out, tally);
+            same &= calls::fragment(Kind::Journey, message, Number { field, mask, k }, expected, out, tally);
         }
         split.ok().filter(|_| same)
     }

@@ -46,15 +46,15 @@ impl Lent {
 }
 
 /// Bytes that a call is lent to read.
-pub struct Input {
+pub struct Input<'a> {
     /// The bytes as they must stay.
-    pub kept: Vec<u8>,
+    pub kept: &'a [u8],
     /// The bytes that are lent.
     pub lent: Vec<u8>,
 }
 
-impl Input {
-    pub fn new(bytes: &[u8]) -> Self {
-        Input { kept: bytes.to_vec(), lent: bytes.to_vec() }
+impl<'a> Input<'a> {
+    pub fn new(kept: &'a [u8]) -> Self {
+        Input { kept, lent: kept.to_vec() }
     }
 }

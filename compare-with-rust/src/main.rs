@@ -21,8 +21,8 @@ use tally::Tally;
 
 const SEED: u64 = 1;
 
-/// Where this variable is set, each row that is as expected is spoiled afterwards, in one of its parts, and compared again: by
-/// this it can be seen that a difference in any part of any kind of row is found.
+/// Where this variable is set, each row that is as expected is spoiled afterwards, in one of its parts, and compared
+/// again: by this it can be seen that a difference in any part of any kind of row is found.
 const WRONG: &str = "COMPARE_WRONG";
 
 /// The fields from 0 to 514 in an order that spreads them.

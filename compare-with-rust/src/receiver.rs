@@ -70,13 +70,13 @@ impl Pair {
             Call::Join(f, n) => Request::Join(n, f.to_vec()),
         });
         tally.heard(expected.heard());
-        let row = Row { answer: expected, written: &self.expected_store, read: &input.kept };
+        let row = Row { answer: expected, written: &self.expected_store, read: input.kept };
         let ours = Row { answer: ours, written: &self.store, read: &input.lent };
         tally.compare(kind, row, ours, || self.told()).then_some(expected.heard())
     }
 
-    /// The source's answer with the state that the rules have, and into the expected store the bytes that the call may write.
-    /// What the rules refuse does not go to the source.
+    /// The source's answer, with which the rules must agree, and the state that the rules have. Into the expected store
+    /// go the bytes that the call may write. What the rules refuse does not go to the source.
     fn expect(&mut self, call: Call) -> Pushed {
         let (ruled, state) = rules::answer(self.expected, &mut self.expected_store, call);
         self.expected = state;
@@ -93,6 +93,7 @@ impl Pair {
                 Heard::Done(message.len())
             }
         };
+        assert_eq!(heard, ruled, "the source, and document 01's rules, on {call:02X?}");
         Pushed::of(heard, state)
     }
 

@@ -1,9 +1,10 @@
-//! The exported functions and their structs, field for field. A slice crosses as a pointer and a length, and structs cross by
-//! value. A flag is a byte here, so that every byte that an answer may have can be looked at.
+//! The exported functions and their structs, field for field. A slice crosses as a pointer and a length, and structs
+//! cross by value. A flag is a byte here, so that every byte that an answer may have can be looked at.
 
 use std::marker::PhantomData;
 
-/// Bytes that a call is lent to read. Where they are borrowed as mutable, a call that writes to them all the same can be found.
+/// Bytes that a call is lent to read. Where they are borrowed as mutable, a call that writes to them all the same can be
+/// found.
 #[derive(Clone, Copy)]
 pub struct Bytes<'a> {
     start: *const u8,

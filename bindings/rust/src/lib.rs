@@ -32,14 +32,14 @@
 //!
 //! # What is promised, and what the air can still do
 //!
-//! What is promised, with a proof, about a message that [`fragments`] accepted: the receiver answers [`Heard::More`] to each of its
-//! frames but the last, and [`Heard::Done`] with exactly the message to the last. It is so if
+//! What is promised, with a proof, about a message that [`fragments`] accepted: the receiver answers [`Heard::More`] to each of
+//! its frames but the last, and [`Heard::Done`] with exactly the message to the last. It is so if
 //! - the receiver has the sender's mask;
-//! - the receiver is new, or its last call was an ending: a reset, or a push or join of a fragment that is not empty and whose first
-//!   byte is below 0x80;
+//! - the receiver is new, or its last call was an ending: a reset, or a push or join of a fragment that is not empty and whose
+//!   first byte is below 0x80;
 //! - the frames of the message arrive in order, undamaged and complete, each once;
-//! - only idle calls stand between them: calls that are refused, frames of another length than field + 3, and frames or fragments of
-//!   no bytes.
+//! - only idle calls stand between them: calls that are refused, frames of another length than field + 3, and frames or
+//!   fragments of no bytes.
 //!
 //! What the air can still do, since the format leaves no room to find it out:
 //! - A frame that is lost may go unnoticed. The first of several fragments carries four check bits of the whole message under

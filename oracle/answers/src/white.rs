@@ -3,8 +3,8 @@
 use crate::cases::Data;
 use crate::random::Random;
 
-/// White space of a call is 09 to 0D and 1C to 20, that of an altitude 09 to 0D and 20: the first and the last of each, and the
-/// bytes beside them.
+/// White space of a call is 09 to 0D and 1C to 20, that of an altitude 09 to 0D and 20: the first and the last of each,
+/// and the bytes beside them.
 const EDGES: [u8; 12] = [0x08, 0x09, 0x0A, 0x0D, 0x0E, 0x1B, 0x1C, 0x1D, 0x1F, 0x20, 0x20, 0x21];
 
 /// The texts of a frame: destination, source, digipeater, addressee, a third party's three calls, and altitude.
