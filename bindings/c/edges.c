@@ -194,12 +194,14 @@ static void fragment_rooms(const uint8_t *message, size_t n, size_t field, uint8
 /* All fragments of a message, whose count is known, and the number after the last. */
 static void sender_rooms(const uint8_t *message, size_t n, size_t field, uint8_t mask, size_t count)
 {
-    uint8_t *out = filled(field);
+    uint8_t *lent = copied(message, n), *out = filled(field);
     expect(answered(xara_count_for_field(n, field), 0, count), "count", n);
     for (size_t k = 0; k < count; k++)
         fragment_rooms(message, n, field, mask, k);
-    XaraAnswer past = xara_fragment(message, n, field, mask, count, out, field);
+    XaraAnswer past = xara_fragment(lent, n, field, mask, count, out, field);
     expect(answered(past, XARA_REFUSAL_NUMBER, 0) && untouched(out, field), "number", count);
+    expect(memcmp(lent, message, n) == 0, "message to send", n);
+    free(lent);
     free(out);
 }
 
@@ -210,24 +212,33 @@ static void generic_rooms(const uint8_t *any)
         encode_rooms(XARA_GENERIC, XARA_TEXT, any, n);
 }
 
+/* Data coded into every room, its message decoded into every room. Hands back the message's length. */
+static size_t both_rooms(uint8_t command, const uint8_t *data, size_t n, uint8_t *message)
+{
+    uint8_t *lent = copied(data, n);
+    encode_rooms(command, XARA_TEXT, data, n);
+    expect(summed_up(xara_summary(command, lent, n), 0, XARA_TEXT, command == XARA_AX25, 0), "summary", n);
+    XaraEncoded a = xara_encode(command, lent, n, message, XARA_MAX_MESSAGE);
+    decode_rooms(command, message, a.length);
+    expect(memcmp(lent, data, n) == 0, "data to sum up", n);
+    free(lent);
+    return a.length;
+}
+
 static void coding_rooms(void)
 {
     static const uint8_t frame[] = {0x86, 0xA2, 0x40, 0x40, 0x40, 0x40, 0x60, 0x96, 0x62, 0x82, 0x40,
                                     0x40, 0x40, 0x61, 0x03, 0xF0, 0x41, 0x42, 0x43, 0x44, 0x45};
-    uint8_t any[300], message[XARA_MAX_MESSAGE];
+    uint8_t any[300], *message = filled(XARA_MAX_MESSAGE);
     for (size_t i = 0; i < sizeof any; i++)
         any[i] = (uint8_t)(i * 37);
     generic_rooms(any);
-    encode_rooms(XARA_AX25, XARA_TEXT, frame, sizeof frame);
-    encode_rooms(XARA_GENERIC, XARA_TEXT, any, sizeof any);
-    expect(summed_up(xara_summary(XARA_AX25, frame, sizeof frame), 0, XARA_TEXT, 1, 0), "summary", 0);
-    XaraEncoded a = xara_encode(XARA_AX25, frame, sizeof frame, message, sizeof message);
-    decode_rooms(XARA_AX25, message, a.length);
-    sender_rooms(message, a.length, 5, XARA_MASK_HF, 3);
-    a = xara_encode(XARA_GENERIC, any, sizeof any, message, sizeof message);
-    decode_rooms(XARA_GENERIC, message, a.length);
-    sender_rooms(message, a.length, 30, XARA_MASK_HF, 11);
-    sender_rooms(message, a.length, 64, XARA_MASK_FM, 5);
+    size_t n = both_rooms(XARA_AX25, frame, sizeof frame, message);
+    sender_rooms(message, n, 5, XARA_MASK_HF, 3);
+    n = both_rooms(XARA_GENERIC, any, sizeof any, message);
+    sender_rooms(message, n, 30, XARA_MASK_HF, 11);
+    sender_rooms(message, n, 64, XARA_MASK_FM, 5);
+    free(message);
 }
 
 /* So many bits of a value after the bits that are there. */
@@ -325,31 +336,40 @@ static void command_refusals(void)
 /* Data and messages that are too long. */
 static void length_refusals(void)
 {
-    uint8_t *out = filled(XARA_MAX_MESSAGE), *long_one = filled(XARA_MAX_MESSAGE + 1);
+    size_t n = XARA_MAX_DATA + 1;
+    uint8_t *data = filled(n), *message = filled(XARA_MAX_MESSAGE + 1), *out = filled(XARA_MAX_MESSAGE);
     for (uint8_t command = XARA_AX25; command <= XARA_GENERIC; command++) {
-        XaraEncoded a = xara_encode(command, long_one, XARA_MAX_DATA + 1, out, XARA_MAX_MESSAGE);
-        expect(encoded(a, XARA_REFUSAL_TOO_LONG, 0, 0), "data", command);
-        XaraSummary b = xara_summary(command, long_one, XARA_MAX_DATA + 1);
-        expect(summed_up(b, XARA_REFUSAL_TOO_LONG, 0, 0, 0), "summary", command);
+        expect(encoded(xara_encode(command, data, n, out, XARA_MAX_MESSAGE), XARA_REFUSAL_TOO_LONG, 0, 0), "data", command);
+        expect(summed_up(xara_summary(command, data, n), XARA_REFUSAL_TOO_LONG, 0, 0, 0), "summary", command);
     }
-    XaraDecoded c = xara_decode(long_one, XARA_MAX_MESSAGE + 1, out, XARA_MAX_MESSAGE);
-    expect(decoded(c, XARA_REFUSAL_TOO_LONG, 0, 0), "decode", XARA_MAX_MESSAGE + 1);
-    expect(untouched(long_one, XARA_MAX_MESSAGE + 1) && untouched(out, XARA_MAX_MESSAGE), "too long", 0);
+    XaraDecoded a = xara_decode(message, XARA_MAX_MESSAGE + 1, out, XARA_MAX_MESSAGE);
+    expect(decoded(a, XARA_REFUSAL_TOO_LONG, 0, 0), "decode", XARA_MAX_MESSAGE + 1);
+    expect(untouched(data, n) && untouched(message, XARA_MAX_MESSAGE + 1) && untouched(out, XARA_MAX_MESSAGE), "too long", 0);
+    free(data);
+    free(message);
     free(out);
-    free(long_one);
 }
 
-/* A frame is coded as another one is, or refused where a refusal is given. */
-static void coded_as(const uint8_t *odd, const uint8_t *clean, size_t n, uint8_t refusal, size_t at)
+/* A frame is refused with this, and nothing is changed. */
+static void not_coded(const uint8_t *frame, size_t n, uint8_t refusal, size_t at)
 {
-    uint8_t *lent = copied(odd, n), *out = filled(100), *whole = filled(100);
-    XaraEncoded full = xara_encode(XARA_AX25, clean, n, whole, 100), a = xara_encode(XARA_AX25, lent, n, out, 100);
-    if (refusal == 0)
-        expect(encoded(a, 0, full.aprs_type, full.length) && memcmp(out, whole, 100) == 0, "white space", at);
-    else
-        expect(encoded(a, refusal, 0, 0) && untouched(out, 100), "beside white space", at);
-    expect(encoded(full, 0, full.aprs_type, full.length) && memcmp(lent, odd, n) == 0, "frame with white space", at);
+    uint8_t *lent = copied(frame, n), *out = filled(100);
+    expect(encoded(xara_encode(XARA_AX25, lent, n, out, 100), refusal, 0, 0) && untouched(out, 100), "frame refused", at);
+    expect(memcmp(lent, frame, n) == 0, "frame refused, its bytes", at);
     free(lent);
+    free(out);
+}
+
+/* A frame is coded as another one is. */
+static void coded_as(const uint8_t *odd, const uint8_t *clean, size_t n, size_t at)
+{
+    uint8_t *lent = copied(odd, n), *other = copied(clean, n), *out = filled(100), *whole = filled(100);
+    XaraEncoded full = xara_encode(XARA_AX25, other, n, whole, 100), a = xara_encode(XARA_AX25, lent, n, out, 100);
+    expect(encoded(full, 0, full.aprs_type, full.length), "frame without white space", at);
+    expect(encoded(a, 0, full.aprs_type, full.length) && memcmp(out, whole, 100) == 0, "frame with white space", at);
+    expect(memcmp(lent, odd, n) == 0 && memcmp(other, clean, n) == 0, "frame with white space, its bytes", at);
+    free(lent);
+    free(other);
     free(out);
     free(whole);
 }
@@ -376,7 +396,10 @@ static void text_edges(const char *information, size_t place, const char *text, 
             odd[place + (front ? 0 : length)] = (uint8_t)(c << shift);
             for (size_t i = 0; i < length; i++)
                 odd[place + front + i] = (uint8_t)(text[i] << shift);
-            coded_as(odd, plain, n, refusal, c);
+            if (refusal == 0)
+                coded_as(odd, plain, n, c);
+            else
+                not_coded(odd, n, refusal, c);
         }
     }
 }
@@ -400,28 +423,28 @@ static void form_refusals(void)
                                               0x62, 0x82, 0x40, 0x40, 0x40, 0x61, 0x03, 0xF0};
     size_t n = 16 + sizeof information - 1;
     memcpy(frame + 16, information, sizeof information);
-    uint8_t *out = filled(100);
-    expect(encoded(xara_encode(XARA_AX25, frame, n, out, 100), XARA_REFUSAL_FORMAT, 0, 0), "form", 0);
-    expect(summed_up(xara_summary(XARA_AX25, frame, n), 0, XARA_POSITION, 1, 0), "form", 1);
-    expect(encoded(xara_encode(XARA_AX25, call, sizeof call, out, 100), XARA_REFUSAL_BAD_CALL, 0, 0), "call", 0);
-    expect(untouched(out, 100), "form", 2);
-    free(out);
+    not_coded(frame, n, XARA_REFUSAL_FORMAT, 0);
+    not_coded(call, sizeof call, XARA_REFUSAL_BAD_CALL, 0);
+    uint8_t *lent = copied(frame, n);
+    expect(summed_up(xara_summary(XARA_AX25, lent, n), 0, XARA_POSITION, 1, 0), "summary of a wrong form", 0);
+    free(lent);
 }
 
 /* Fields outside 3 to 512. */
 static void field_refusals(void)
 {
     XaraControl control = {0, 0, 0};
-    uint8_t *message = filled(9), *out = filled(600);
+    uint8_t *message = filled(9), *fragment = filled(1), *out = filled(600);
     size_t fields[] = {0, 1, 2, 513, SIZE_MAX};
     for (size_t i = 0; i < 5; i++) {
         size_t field = fields[i];
         expect(answered(xara_count_for_field(1, field), XARA_REFUSAL_FIELD, 0), "count", field);
         expect(answered(xara_fragment(message, 9, field, 0, 0, out, 600), XARA_REFUSAL_FIELD, 0), "fragment", field);
-        expect(answered(xara_build_frame(field, message, 1, control, 0, out, 600), XARA_REFUSAL_FIELD, 0), "frame", field);
+        expect(answered(xara_build_frame(field, fragment, 1, control, 0, out, 600), XARA_REFUSAL_FIELD, 0), "frame", field);
     }
-    expect(untouched(message, 9) && untouched(out, 600), "field's bytes", 0);
+    expect(untouched(message, 9) && untouched(fragment, 1) && untouched(out, 600), "field's bytes", 0);
     free(message);
+    free(fragment);
     free(out);
 }
 
@@ -438,34 +461,46 @@ static void mask_refusals(void)
     free(out);
 }
 
+/* A fragment of a message with this first byte is refused with this, and nothing is changed. */
+static void not_sent(uint8_t first, size_t n, size_t field, uint8_t mask, size_t k, uint8_t refusal)
+{
+    uint8_t *message = filled(n), *out = filled(600);
+    message[0] = first;
+    expect(answered(xara_fragment(message, n, field, mask, k, out, 600), refusal, 0), "fragment refused", refusal);
+    expect(message[0] == first && untouched(message + 1, n - 1) && untouched(out, 600), "fragment refused, its bytes", refusal);
+    free(message);
+    free(out);
+}
+
+/* Too long a message, a first byte of 80, one fragment too many under each mask, and a number after the last. */
 static void sender_refusals(void)
 {
-    uint8_t *message = filled(XARA_MAX_MESSAGE + 1), *out = filled(600);
-    message[0] = 0x40;
-    expect(answered(xara_fragment(message, 5001, 512, 0xF0, 0, out, 600), XARA_REFUSAL_TOO_LONG, 0), "long", 0);
-    expect(answered(xara_count_for_field(5001, 512), XARA_REFUSAL_TOO_LONG, 0), "long", 1);
-    expect(answered(xara_fragment(message + 1, 9, 5, 0xF0, 0, out, 600), XARA_REFUSAL_FIRST_BYTE, 0), "first byte", 0);
-    expect(answered(xara_fragment(message, 35, 3, 0xF0, 0, out, 600), XARA_REFUSAL_COUNT, 0), "18 under F0", 0);
-    expect(answered(xara_fragment(message, 19, 3, 0xF8, 0, out, 600), XARA_REFUSAL_COUNT, 0), "10 under F8", 0);
-    expect(answered(xara_fragment(message, 9, 5, 0xF0, SIZE_MAX, out, 600), XARA_REFUSAL_NUMBER, 0), "number", SIZE_MAX);
-    expect(message[0] == 0x40 && untouched(message + 1, XARA_MAX_MESSAGE), "message", 0);
-    expect(untouched(out, 600), "output", 0);
-    free(message);
+    expect(answered(xara_count_for_field(XARA_MAX_MESSAGE + 1, 512), XARA_REFUSAL_TOO_LONG, 0), "count", XARA_MAX_MESSAGE + 1);
+    not_sent(0x40, XARA_MAX_MESSAGE + 1, 512, XARA_MASK_HF, 0, XARA_REFUSAL_TOO_LONG);
+    not_sent(0x80, 9, 5, XARA_MASK_HF, 0, XARA_REFUSAL_FIRST_BYTE);
+    not_sent(0x40, 35, 3, XARA_MASK_HF, 0, XARA_REFUSAL_COUNT);
+    not_sent(0x40, 19, 3, XARA_MASK_FM, 0, XARA_REFUSAL_COUNT);
+    not_sent(0x40, 9, 5, XARA_MASK_HF, SIZE_MAX, XARA_REFUSAL_NUMBER);
+}
+
+/* The frame of a fragment of so many bytes is refused with this at field 5, and nothing is changed. */
+static void not_framed(size_t n, XaraControl control, uint8_t marker, uint8_t refusal)
+{
+    uint8_t *fragment = filled(n), *out = filled(8);
+    expect(answered(xara_build_frame(5, fragment, n, control, marker, out, 8), refusal, 0), "frame refused", refusal);
+    expect(untouched(fragment, n) && untouched(out, 8), "frame refused, its bytes", refusal);
+    free(fragment);
     free(out);
 }
 
 static void frame_refusals(void)
 {
     XaraControl control = {3, 1, 7}, reply = {4, 0, 0}, hint = {0, 0, 8};
-    uint8_t *fragment = filled(6), *out = filled(600);
-    expect(answered(xara_build_frame(5, fragment, 0, control, 0x14, out, 600), XARA_REFUSAL_FRAGMENT, 0), "no fragment", 0);
-    expect(answered(xara_build_frame(5, fragment, 6, control, 0x14, out, 600), XARA_REFUSAL_FRAGMENT, 0), "over the field", 0);
-    expect(answered(xara_build_frame(5, fragment, 5, reply, 0x14, out, 600), XARA_REFUSAL_MARKER, 0), "marker", 0);
-    expect(answered(xara_build_frame(5, fragment, 5, reply, 0, out, 0), XARA_REFUSAL_CONTROL, 0), "reply", 0);
-    expect(answered(xara_build_frame(5, fragment, 5, hint, 0, out, 0), XARA_REFUSAL_CONTROL, 0), "hint", 0);
-    expect(untouched(fragment, 6) && untouched(out, 600), "frame's bytes", 0);
-    free(fragment);
-    free(out);
+    not_framed(0, control, XARA_TERMINATOR, XARA_REFUSAL_FRAGMENT);
+    not_framed(6, control, XARA_TERMINATOR, XARA_REFUSAL_FRAGMENT);
+    not_framed(5, reply, XARA_TERMINATOR, XARA_REFUSAL_MARKER);
+    not_framed(5, reply, 0, XARA_REFUSAL_CONTROL);
+    not_framed(5, hint, 0, XARA_REFUSAL_CONTROL);
 }
 
 /* A push and a join on a store of so many bytes are refused with this: the state comes back as it was, and nothing is changed. */

@@ -98,7 +98,6 @@ fn any_bytes(pair: &mut Pair, r: &mut Random, tally: &mut Tally) {
         if r.below(40) == 0 {
             pair.reset(tally);
         }
-        pair.show_overflow(r.byte());
         state(pair, r, tally);
     }
 }
@@ -137,7 +136,6 @@ fn fault(pair: &mut Pair, mut fragment: Vec<u8>, field: usize, r: &mut Random, t
         }
         _ => pair.reset(tally),
     }
-    pair.show_overflow(r.byte());
 }
 
 /// A frame with some bits changed, with bytes cut off or added, or with a 14 in its field.
@@ -166,11 +164,13 @@ fn framed(fragment: &[u8], field: usize, r: &mut Random) -> Vec<u8> {
 }
 
 /// Our state against the source's own: always where few bytes are held, and now and then where many are, since reading
-/// it is slow then. With the state that the rules have ours is compared after every call.
-fn state(pair: &Pair, r: &mut Random, tally: &mut Tally) {
+/// it is slow then. With the state that the rules have ours is compared after every call. Then an overflow is shown to the
+/// next call as any byte.
+fn state(pair: &mut Pair, r: &mut Random, tally: &mut Tally) {
     if pair.held() < 200 || r.below(100) == 0 {
         pair.state(tally);
     }
+    pair.show_overflow(r.byte());
 }
 
 /// Messages of any length, one after the other, in fragments of one field.
