@@ -45,7 +45,7 @@ fn traffic(pair: &mut Pair, mask: u8, r: &mut Random, tally: &mut Tally) {
         } else {
             heard(pair, fragment, sender.field, r, tally);
         }
-        state(pair, r, tally);
+        between_calls(pair, r, tally);
     }
 }
 
@@ -75,7 +75,7 @@ fn run(pair: &mut Pair, fragments: Vec<Vec<u8>>, field: usize, r: &mut Random, t
         } else {
             heard(pair, fragment, field, r, tally);
         }
-        state(pair, r, tally);
+        between_calls(pair, r, tally);
     }
     pair.state(tally);
 }
@@ -98,7 +98,7 @@ fn any_bytes(pair: &mut Pair, r: &mut Random, tally: &mut Tally) {
         if r.below(40) == 0 {
             pair.reset(tally);
         }
-        state(pair, r, tally);
+        between_calls(pair, r, tally);
     }
 }
 
@@ -166,7 +166,7 @@ fn framed(fragment: &[u8], field: usize, r: &mut Random) -> Vec<u8> {
 /// Our state against the source's own: always where few bytes are held, and now and then where many are, since reading
 /// it is slow then. With the state that the rules have ours is compared after every call. Then an overflow is shown to the
 /// next call as any byte.
-fn state(pair: &mut Pair, r: &mut Random, tally: &mut Tally) {
+fn between_calls(pair: &mut Pair, r: &mut Random, tally: &mut Tally) {
     if pair.held() < 200 || r.below(100) == 0 {
         pair.state(tally);
     }

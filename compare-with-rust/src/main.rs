@@ -11,6 +11,7 @@ mod rules;
 mod spoil;
 mod tally;
 mod writing;
+// Other programs take what is not used here.
 #[allow(dead_code)]
 mod xara;
 
@@ -53,7 +54,7 @@ fn run(time: Duration, seed: u64) -> Tally {
     let began = Instant::now();
     let mut r = Random::new(seed, "compare");
     let wrong = std::env::var_os(WRONG).is_some();
-    let mut tally = if wrong { Tally::that_spoils() } else { Tally::default() };
+    let mut tally = if wrong { Tally::spoiling() } else { Tally::default() };
     calls::all_counts(&mut tally);
     histories::all_stores(&mut r, &mut tally);
     codings::longest(&mut r, &mut tally);

@@ -77,8 +77,7 @@ struct Times {
     found: u64,
 }
 
-/// The parts of each kind of row, by kind, type of the answer and name. A part that is there and was not spoiled yet has its
-/// place in the list.
+/// The parts of each kind of row, by kind, type of the answer and name; a part that was not spoiled yet stands there, too.
 #[derive(Default)]
 pub struct Spoiled {
     turn: [usize; KINDS],

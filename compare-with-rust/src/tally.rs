@@ -84,7 +84,7 @@ pub struct Tally {
 
 impl Tally {
     /// A tally that spoils each row that is as expected, too, and counts how often that is found.
-    pub fn that_spoils() -> Self {
+    pub fn spoiling() -> Self {
         Tally { spoiled: Some(Spoiled::default()), ..Tally::default() }
     }
 
