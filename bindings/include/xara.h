@@ -152,7 +152,7 @@ typedef struct XaraControl {
  */
 typedef struct XaraReceiver {
     size_t held;      /* bytes of the store that are held, to 5,000; 0 where no message has begun */
-    size_t nfrag;     /* fragments of the message that is held, to 255; of the last one where nothing is held, 0 after a reset */
+    size_t nfrag;     /* fragments of the message that is held, to 255; where none is held, 0 or those of the last message */
     uint8_t count;    /* the check byte of the message that is held, or of an earlier one; 0 in a new receiver, kept by a reset */
     uint8_t crc_mask; /* XARA_MASK_HF or XARA_MASK_FM */
     uint8_t overflow; /* 0 or 1, and any byte but 0 is taken for 1: the rest of a message that is too long is dropped */

@@ -49,7 +49,7 @@ impl<T> Heard<T> {
 pub struct State {
     /// How many bytes of the store are held, up to [`RX_BUFFER`].
     pub held: usize,
-    /// Fragments of the message that is held, up to [`RX_MAX_FRAGMENTS`]; of the last one where nothing is held, 0 after a reset.
+    /// Fragments of the message that is held, up to [`RX_MAX_FRAGMENTS`]; where none is held, 0 or those of the last message.
     pub nfrag: usize,
     /// The check byte of the message that is held, or of an earlier one; 0 in a new receiver, kept by a reset.
     pub count: u8,
