@@ -60,7 +60,7 @@ fn encoding(table: &mut Table, kind: &str, command: Command, data: Rc<[u8]>, mes
         return;
     }
     let mut out = vec![0; STORE];
-    let (n, _) = xara::encode(command.byte(), &data, &mut out).expect("the input is accepted");
+    let (n, _) = xara::encode(command.byte(), &data, &mut out).told().expect("the input is accepted");
     same(&name, message, &out[..n]);
     let theirs = Rc::clone(&data);
     let source = move || kiss::encode(command, black_box(&theirs));
@@ -74,7 +74,7 @@ fn decoding(table: &mut Table, kind: &str, bytes: usize, message: Rc<[u8]>, bar:
         return;
     }
     let mut out = vec![0; MOST_DECODED];
-    let (n, _) = xara::decode(&message, &mut out).expect("the message is decoded");
+    let (n, _) = xara::decode(&message, &mut out).told().expect("the message is decoded");
     same(&name, &kiss::decode(&message).expect("the message is decoded").1, &out[..n]);
     let theirs = Rc::clone(&message);
     let source = move || kiss::decode(black_box(&theirs));
@@ -104,11 +104,11 @@ fn split(message: &[u8], field: usize) -> Vec<Vec<u8>> {
     kiss::split_masked(message, kiss::count_for_field(message.len(), field), field, HF_CRC_MASK)
 }
 
-/// All fragments of ours, one behind the other; their total length.
+/// All fragments of ours, one after the other; their total length.
 fn cut(message: &[u8], field: usize, out: &mut [u8]) -> Result<usize, u8> {
     let mut end = 0;
-    for k in 0..xara::count(message.len(), field)? {
-        end += xara::fragment(message, field, HF_CRC_MASK, k, &mut out[end..])?;
+    for k in 0..xara::count(message.len(), field).told()? {
+        end += xara::fragment(message, field, HF_CRC_MASK, k, &mut out[end..]).told()?;
     }
     Ok(end)
 }
@@ -141,7 +141,7 @@ pub fn frame(table: &mut Table) {
             continue;
         }
         let mut out = vec![0; field + 3];
-        let n = xara::frame(field, &data, XARA_CONTROL, MARKER, &mut out).expect("the fragment is accepted");
+        let n = xara::frame(field, &data, XARA_CONTROL, MARKER, &mut out).told().expect("the fragment is accepted");
         same(name, &build_frame(field + 3, &data, CONTROL, None, MARKER), &out[..n]);
         let theirs = data.clone();
         let source = move || build_frame(black_box(field) + 3, black_box(&theirs), CONTROL, None, MARKER);
@@ -165,12 +165,12 @@ fn join(frames: &[Vec<u8>], level: Record) -> Option<Vec<u8>> {
 
 /// A new receiver of ours, all frames pushed; the length of the message, which is first in the store.
 fn join_ours(frames: &[Vec<u8>], field: usize, store: &mut [u8]) -> Result<usize, u8> {
-    let mut receiver = Receiver::new(HF_CRC_MASK)?;
+    let mut receiver = Receiver::fresh(HF_CRC_MASK).told()?;
     let mut done = 0;
     for frame in frames {
-        let (heard, next) = receiver.push(store, frame, field);
-        receiver = next;
-        if let Heard::Done(n) = heard {
+        let pushed = receiver.push(store, frame, field);
+        receiver = pushed.receiver;
+        if let Heard::Done(n) = pushed.heard() {
             done = n;
         }
     }

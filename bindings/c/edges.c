@@ -1,7 +1,9 @@
 /*
- * Every output length from 0 to one more than the answer's, every refusal's number, frames and fragments of every length, and
- * receiver states that no call leads to. Every buffer has its exact length on the heap, so that valgrind sees a byte read or
- * written beside it. Prints how many calls were held against what is to be expected; the exit status is 1 where one differs.
+ * Every output length from 0 to one more than the answer's, every refusal's number, frames and fragments of every length, texts
+ * with white space and the bytes beside it at their edges, and receiver states that no call leads to. Every field of every answer
+ * is looked at, flags as the bytes that they are, and every input for being unchanged. Every buffer has its exact length on the
+ * heap, so that valgrind sees a byte read or written beside it. Prints how many calls were held against what is to be expected;
+ * the exit status is 1 where one differs.
  */
 #include "xara.h"
 
@@ -10,6 +12,9 @@
 #include <string.h>
 
 #define SENTINEL 0xA5
+
+/* A flag of an answer as the byte that it is, which may be any byte of a wrong library. */
+#define FLAG(type, answer, field) byte_at(&(answer), offsetof(type, field))
 
 static unsigned long calls, wrong;
 
@@ -20,6 +25,13 @@ static void expect(bool is, const char *what, size_t at)
         wrong++;
         fprintf(stderr, "%s differs at %zu\n", what, at);
     }
+}
+
+static uint8_t byte_at(const void *answer, size_t place)
+{
+    uint8_t byte;
+    memcpy(&byte, (const char *)answer + place, 1);
+    return byte;
 }
 
 static uint8_t *filled(size_t n)
@@ -46,42 +58,101 @@ static bool untouched(const uint8_t *bytes, size_t n)
     return true;
 }
 
-/* What is expected of a call that writes an answer of so many bytes into room for so many. */
-static bool written(bool ok, uint8_t refusal, size_t length, const uint8_t *out, size_t room, const uint8_t *answer, size_t n)
+/* The answer's bytes are at the front of the room and all after them is unchanged; all is where the room is too short. */
+static bool written(const uint8_t *out, size_t room, const uint8_t *answer, size_t n)
 {
     if (room < n)
-        return !ok && refusal == XARA_REFUSAL_OUTPUT && length == 0 && untouched(out, room);
-    return ok && refusal == 0 && length == n && memcmp(out, answer, n) == 0 && untouched(out + n, room - n);
+        return untouched(out, room);
+    return memcmp(out, answer, n) == 0 && untouched(out + n, room - n);
 }
 
-static void encode_rooms(uint8_t command, const uint8_t *data, size_t n)
+/* Each answer in all its fields. A refusal of 0 is none; a caller that expects a refusal expects 0 in the fields after it. */
+static bool answered(XaraAnswer a, uint8_t refusal, size_t value)
+{
+    return FLAG(XaraAnswer, a, ok) == (refusal == 0) && a.refusal == refusal && a.value == value;
+}
+
+static bool encoded(XaraEncoded a, uint8_t refusal, uint8_t type, size_t length)
+{
+    return FLAG(XaraEncoded, a, ok) == (refusal == 0) && a.refusal == refusal && a.aprs_type == type && a.length == length;
+}
+
+static bool decoded(XaraDecoded a, uint8_t refusal, uint8_t command, size_t length)
+{
+    return FLAG(XaraDecoded, a, ok) == (refusal == 0) && a.refusal == refusal && a.command == command && a.length == length;
+}
+
+static bool summed_up(XaraSummary a, uint8_t refusal, uint8_t type, uint8_t ui, size_t digis)
+{
+    return FLAG(XaraSummary, a, ok) == (refusal == 0) && a.refusal == refusal && a.aprs_type == type &&
+           FLAG(XaraSummary, a, ui) == ui && a.digis == digis;
+}
+
+static bool same(XaraReceiver a, XaraReceiver b)
+{
+    return a.held == b.held && a.nfrag == b.nfrag && a.count == b.count && a.crc_mask == b.crc_mask && a.overflow == b.overflow;
+}
+
+static bool fresh(XaraFresh a, uint8_t refusal, XaraReceiver receiver)
+{
+    return FLAG(XaraFresh, a, ok) == (refusal == 0) && a.refusal == refusal && same(a.receiver, receiver);
+}
+
+static bool pushed(XaraPushed a, uint8_t kind, uint8_t refusal, size_t length, XaraReceiver receiver)
+{
+    return a.kind == kind && a.refusal == refusal && a.length == length && same(a.receiver, receiver);
+}
+
+static bool dropped(XaraPushed a, XaraReceiver receiver)
+{
+    return pushed(a, XARA_DROPPED, 0, 0, receiver);
+}
+
+/* Data of this type into every room. */
+static void encode_rooms(uint8_t command, uint8_t type, const uint8_t *data, size_t n)
 {
     uint8_t *lent = copied(data, n), *whole = filled(XARA_MAX_MESSAGE);
     XaraEncoded full = xara_encode(command, lent, n, whole, XARA_MAX_MESSAGE);
-    expect(full.ok, "encode", n);
+    expect(encoded(full, 0, type, full.length) && full.length <= XARA_MAX_MESSAGE, "encode", n);
     for (size_t room = 0; room <= full.length + 1; room++) {
         uint8_t *out = filled(room);
         XaraEncoded a = xara_encode(command, lent, n, out, room);
-        expect(written(a.ok, a.refusal, a.length, out, room, whole, full.length), "encode", room);
+        bool fits = room >= full.length;
+        expect(encoded(a, fits ? 0 : XARA_REFUSAL_OUTPUT, fits ? type : 0, fits ? full.length : 0) &&
+                   written(out, room, whole, full.length),
+               "encode", room);
         free(out);
     }
+    expect(memcmp(lent, data, n) == 0, "data to encode", n);
     free(lent);
     free(whole);
 }
 
-static void decode_rooms(const uint8_t *message, size_t n)
+/* A message of this command into every room. */
+static void decode_rooms(uint8_t command, const uint8_t *message, size_t n)
 {
     uint8_t *lent = copied(message, n), *whole = filled(XARA_MAX_DECODED);
     XaraDecoded full = xara_decode(lent, n, whole, XARA_MAX_DECODED);
-    expect(full.ok, "decode", n);
+    expect(decoded(full, 0, command, full.length) && full.length <= XARA_MAX_DECODED, "decode", n);
     for (size_t room = 0; room <= full.length + 1; room++) {
         uint8_t *out = filled(room);
         XaraDecoded a = xara_decode(lent, n, out, room);
-        expect(written(a.ok, a.refusal, a.length, out, room, whole, full.length), "decode", room);
+        bool fits = room >= full.length;
+        expect(decoded(a, fits ? 0 : XARA_REFUSAL_OUTPUT, fits ? command : 0, fits ? full.length : 0) &&
+                   written(out, room, whole, full.length),
+               "decode", room);
         free(out);
     }
+    expect(memcmp(lent, message, n) == 0, "message to decode", n);
     free(lent);
     free(whole);
+}
+
+/* An answer of so many bytes into room for so many. */
+static bool answered_in(XaraAnswer a, size_t n, const uint8_t *out, size_t room, const uint8_t *whole)
+{
+    bool fits = room >= n;
+    return answered(a, fits ? 0 : XARA_REFUSAL_OUTPUT, fits ? n : 0) && written(out, room, whole, n);
 }
 
 /* The frame of a fragment into every room. */
@@ -90,13 +161,14 @@ static void frame_rooms(const uint8_t *fragment, size_t n, size_t field)
     XaraControl control = {1, 0x80, 7};
     uint8_t *lent = copied(fragment, n), *whole = filled(field + XARA_FRAME_EXTRA);
     XaraAnswer full = xara_build_frame(field, lent, n, control, 0, whole, field + XARA_FRAME_EXTRA);
-    expect(full.ok && full.value == field + XARA_FRAME_EXTRA, "frame", n);
+    expect(answered(full, 0, field + XARA_FRAME_EXTRA), "frame", n);
     for (size_t room = 0; room <= full.value + 1; room++) {
         uint8_t *out = filled(room);
         XaraAnswer a = xara_build_frame(field, lent, n, control, 0, out, room);
-        expect(written(a.ok, a.refusal, a.value, out, room, whole, full.value), "frame", room);
+        expect(answered_in(a, full.value, out, room, whole), "frame", room);
         free(out);
     }
+    expect(memcmp(lent, fragment, n) == 0, "fragment to frame", n);
     free(lent);
     free(whole);
 }
@@ -106,28 +178,30 @@ static void fragment_rooms(const uint8_t *message, size_t n, size_t field, uint8
 {
     uint8_t *lent = copied(message, n), *whole = filled(field);
     XaraAnswer full = xara_fragment(lent, n, field, mask, k, whole, field);
-    expect(full.ok && full.value <= field, "fragment", k);
+    expect(answered(full, 0, full.value) && full.value <= field, "fragment", k);
     for (size_t room = 0; room <= full.value + 1; room++) {
         uint8_t *out = filled(room);
         XaraAnswer a = xara_fragment(lent, n, field, mask, k, out, room);
-        expect(written(a.ok, a.refusal, a.value, out, room, whole, full.value), "fragment", room);
+        expect(answered_in(a, full.value, out, room, whole), "fragment", room);
         free(out);
     }
+    expect(memcmp(lent, message, n) == 0, "message to send", n);
     frame_rooms(whole, full.value, field);
     free(lent);
     free(whole);
 }
 
-/* All fragments of a message, and the number behind the last. */
-static void sender_rooms(const uint8_t *message, size_t n, size_t field, uint8_t mask)
+/* All fragments of a message, whose count is known, and the number after the last. */
+static void sender_rooms(const uint8_t *message, size_t n, size_t field, uint8_t mask, size_t count)
 {
-    XaraAnswer count = xara_count_for_field(n, field);
-    uint8_t *out = filled(field);
-    expect(count.ok, "count", n);
-    for (size_t k = 0; k < count.value; k++)
+    uint8_t *lent = copied(message, n), *out = filled(field);
+    expect(answered(xara_count_for_field(n, field), 0, count), "count", n);
+    for (size_t k = 0; k < count; k++)
         fragment_rooms(message, n, field, mask, k);
-    XaraAnswer past = xara_fragment(message, n, field, mask, count.value, out, field);
-    expect(past.refusal == XARA_REFUSAL_NUMBER && untouched(out, field), "number", count.value);
+    XaraAnswer past = xara_fragment(lent, n, field, mask, count, out, field);
+    expect(answered(past, XARA_REFUSAL_NUMBER, 0) && untouched(out, field), "number", count);
+    expect(memcmp(lent, message, n) == 0, "message to send", n);
+    free(lent);
     free(out);
 }
 
@@ -135,29 +209,39 @@ static void sender_rooms(const uint8_t *message, size_t n, size_t field, uint8_t
 static void generic_rooms(const uint8_t *any)
 {
     for (size_t n = 0; n <= 40; n++)
-        encode_rooms(XARA_GENERIC, any, n);
+        encode_rooms(XARA_GENERIC, XARA_TEXT, any, n);
+}
+
+/* Data coded into every room, its message decoded into every room. Hands back the message's length. */
+static size_t both_rooms(uint8_t command, const uint8_t *data, size_t n, uint8_t *message)
+{
+    uint8_t *lent = copied(data, n);
+    encode_rooms(command, XARA_TEXT, data, n);
+    expect(summed_up(xara_summary(command, lent, n), 0, XARA_TEXT, command == XARA_AX25, 0), "summary", n);
+    XaraEncoded a = xara_encode(command, lent, n, message, XARA_MAX_MESSAGE);
+    decode_rooms(command, message, a.length);
+    expect(memcmp(lent, data, n) == 0, "data to sum up", n);
+    free(lent);
+    return a.length;
 }
 
 static void coding_rooms(void)
 {
     static const uint8_t frame[] = {0x86, 0xA2, 0x40, 0x40, 0x40, 0x40, 0x60, 0x96, 0x62, 0x82, 0x40,
                                     0x40, 0x40, 0x61, 0x03, 0xF0, 0x41, 0x42, 0x43, 0x44, 0x45};
-    uint8_t any[300], message[XARA_MAX_MESSAGE];
+    uint8_t any[300], *message = filled(XARA_MAX_MESSAGE);
     for (size_t i = 0; i < sizeof any; i++)
         any[i] = (uint8_t)(i * 37);
     generic_rooms(any);
-    encode_rooms(XARA_AX25, frame, sizeof frame);
-    encode_rooms(XARA_GENERIC, any, sizeof any);
-    XaraEncoded a = xara_encode(XARA_AX25, frame, sizeof frame, message, sizeof message);
-    decode_rooms(message, a.length);
-    sender_rooms(message, a.length, 5, XARA_MASK_HF);
-    a = xara_encode(XARA_GENERIC, any, sizeof any, message, sizeof message);
-    decode_rooms(message, a.length);
-    sender_rooms(message, a.length, 30, XARA_MASK_HF);
-    sender_rooms(message, a.length, 64, XARA_MASK_FM);
+    size_t n = both_rooms(XARA_AX25, frame, sizeof frame, message);
+    sender_rooms(message, n, 5, XARA_MASK_HF, 3);
+    n = both_rooms(XARA_GENERIC, any, sizeof any, message);
+    sender_rooms(message, n, 30, XARA_MASK_HF, 11);
+    sender_rooms(message, n, 64, XARA_MASK_FM, 5);
+    free(message);
 }
 
-/* So many bits of a value behind the bits that are there. */
+/* So many bits of a value after the bits that are there. */
 static size_t push(uint8_t *out, size_t at, unsigned value, unsigned width)
 {
     for (unsigned i = 0; i < width; i++, at++)
@@ -165,7 +249,7 @@ static size_t push(uint8_t *out, size_t at, unsigned value, unsigned width)
     return at;
 }
 
-/* The message that decodes to the most bytes: a third party's, a text of the longest word behind calls of 6 bits, one of 9. */
+/* The message that decodes to the most bytes: a third party's, a text of the longest word after calls of 6 bits, one of 9. */
 static void longest(uint8_t *message)
 {
     static const unsigned head[][2] = {{0x5F, 8}, {0, 8},  {47, 6}, {47, 6}, {9, 4}, {6, 3},
@@ -182,11 +266,14 @@ static void longest_rooms(void)
 {
     uint8_t *message = filled(XARA_MAX_MESSAGE), *out = filled(XARA_MAX_DECODED), *small = filled(XARA_MAX_DECODED - 1);
     longest(message);
+    uint8_t *kept = copied(message, XARA_MAX_MESSAGE);
     XaraDecoded a = xara_decode(message, XARA_MAX_MESSAGE, small, XARA_MAX_DECODED - 1);
-    expect(a.refusal == XARA_REFUSAL_OUTPUT && untouched(small, XARA_MAX_DECODED - 1), "longest", 0);
+    expect(decoded(a, XARA_REFUSAL_OUTPUT, 0, 0) && untouched(small, XARA_MAX_DECODED - 1), "longest", 0);
     a = xara_decode(message, XARA_MAX_MESSAGE, out, XARA_MAX_DECODED);
-    expect(a.ok && a.command == XARA_AX25_LONG && a.length == XARA_MAX_DECODED, "longest", 1);
+    expect(decoded(a, 0, XARA_AX25_LONG, XARA_MAX_DECODED), "longest", 1);
+    expect(memcmp(message, kept, XARA_MAX_MESSAGE) == 0, "longest", 2);
     free(message);
+    free(kept);
     free(out);
     free(small);
 }
@@ -197,10 +284,10 @@ static void short_frames(void)
     uint8_t *out = filled(XARA_MAX_MESSAGE);
     for (size_t n = 0; n < 16; n++) {
         uint8_t *frame = filled(n);
-        memset(frame, 0x82, n);
         XaraEncoded a = xara_encode(XARA_AX25, frame, n, out, XARA_MAX_MESSAGE);
-        expect(a.refusal == XARA_REFUSAL_SHORT && untouched(out, XARA_MAX_MESSAGE), "short frame", n);
-        expect(xara_summary(XARA_AX25, frame, n).refusal == XARA_REFUSAL_SHORT, "short summary", n);
+        expect(encoded(a, XARA_REFUSAL_SHORT, 0, 0) && untouched(out, XARA_MAX_MESSAGE), "short frame", n);
+        expect(summed_up(xara_summary(XARA_AX25, frame, n), XARA_REFUSAL_SHORT, 0, 0, 0), "short summary", n);
+        expect(untouched(frame, n), "short frame's bytes", n);
         free(frame);
     }
     free(out);
@@ -212,7 +299,7 @@ static void crc_lengths(void)
     unsigned c = 0xFFFF;
     for (size_t n = 0; n < 40; n++) {
         uint8_t *bytes = filled(n);
-        expect(xara_crc16_genibus(bytes, n) == (c ^ 0xFFFF), "crc", n);
+        expect(xara_crc16_genibus(bytes, n) == (c ^ 0xFFFF) && untouched(bytes, n), "crc", n);
         free(bytes);
         c ^= SENTINEL << 8;
         for (int bit = 0; bit < 8; bit++)
@@ -225,58 +312,139 @@ static void nothing(void)
 {
     uint8_t *none = filled(0), *out = filled(0);
     expect(xara_crc16_genibus(none, 0) == 0, "crc of nothing", 0);
-    expect(xara_decode(none, 0, out, 0).refusal == XARA_REFUSAL_NOT_DECODED, "decode nothing", 0);
-    expect(xara_encode(XARA_GENERIC, none, 0, out, 0).refusal == XARA_REFUSAL_OUTPUT, "encode nothing", 0);
-    expect(xara_summary(XARA_GENERIC, none, 0).ok, "summary of nothing", 0);
+    expect(decoded(xara_decode(none, 0, out, 0), XARA_REFUSAL_NOT_DECODED, 0, 0), "decode nothing", 0);
+    expect(encoded(xara_encode(XARA_GENERIC, none, 0, out, 0), XARA_REFUSAL_OUTPUT, 0, 0), "encode nothing", 0);
+    expect(summed_up(xara_summary(XARA_GENERIC, none, 0), 0, XARA_TEXT, 0, 0), "summary of nothing", 0);
     free(none);
     free(out);
 }
 
-/* The coder's and the decoder's refusals that are left. */
-static void coder_refusals(void)
+/* Every command but the three. */
+static void command_refusals(void)
 {
-    uint8_t *out = filled(XARA_MAX_MESSAGE), *long_one = filled(XARA_MAX_MESSAGE + 1);
-    uint8_t frame[] = {0x40 << 1, 0x40, 0x40, 0x40, 0x40, 0x40, 0x60, 0x96, 0x62, 0x82, 0x40, 0x40, 0x40, 0x61, 0x03, 0xF0, 0x41};
-    for (int command = 3; command < 256; command++)
-        expect(xara_encode((uint8_t)command, frame, sizeof frame, out, XARA_MAX_MESSAGE).refusal == XARA_REFUSAL_COMMAND,
-               "command", (size_t)command);
-    expect(xara_summary(255, frame, 0).refusal == XARA_REFUSAL_COMMAND, "summary", 255);
-    expect(xara_encode(2, long_one, XARA_MAX_DATA + 1, out, XARA_MAX_MESSAGE).refusal == XARA_REFUSAL_TOO_LONG, "data", 5000);
-    expect(xara_summary(0, long_one, XARA_MAX_DATA + 1).refusal == XARA_REFUSAL_TOO_LONG, "summary", 5000);
-    expect(xara_decode(long_one, XARA_MAX_MESSAGE + 1, out, 0).refusal == XARA_REFUSAL_TOO_LONG, "decode", 5001);
-    expect(xara_encode(0, frame, sizeof frame, out, XARA_MAX_MESSAGE).refusal == XARA_REFUSAL_BAD_CALL, "call", 0);
-    expect(untouched(out, XARA_MAX_MESSAGE), "output", 0);
+    uint8_t *frame = filled(20), *out = filled(100);
+    for (unsigned command = 3; command < 256; command++) {
+        XaraEncoded a = xara_encode((uint8_t)command, frame, 20, out, 100);
+        expect(encoded(a, XARA_REFUSAL_COMMAND, 0, 0), "command", command);
+        expect(summed_up(xara_summary((uint8_t)command, frame, 20), XARA_REFUSAL_COMMAND, 0, 0, 0), "summary", command);
+    }
+    expect(untouched(frame, 20) && untouched(out, 100), "command's bytes", 0);
+    free(frame);
     free(out);
-    free(long_one);
 }
 
-/* A position whose altitude is no number: the form is wrong. */
-static void format_refusal(void)
+/* Data and messages that are too long. */
+static void length_refusals(void)
 {
+    size_t n = XARA_MAX_DATA + 1;
+    uint8_t *data = filled(n), *message = filled(XARA_MAX_MESSAGE + 1), *out = filled(XARA_MAX_MESSAGE);
+    for (uint8_t command = XARA_AX25; command <= XARA_GENERIC; command++) {
+        expect(encoded(xara_encode(command, data, n, out, XARA_MAX_MESSAGE), XARA_REFUSAL_TOO_LONG, 0, 0), "data", command);
+        expect(summed_up(xara_summary(command, data, n), XARA_REFUSAL_TOO_LONG, 0, 0, 0), "summary", command);
+    }
+    XaraDecoded a = xara_decode(message, XARA_MAX_MESSAGE + 1, out, XARA_MAX_MESSAGE);
+    expect(decoded(a, XARA_REFUSAL_TOO_LONG, 0, 0), "decode", XARA_MAX_MESSAGE + 1);
+    expect(untouched(data, n) && untouched(message, XARA_MAX_MESSAGE + 1) && untouched(out, XARA_MAX_MESSAGE), "too long", 0);
+    free(data);
+    free(message);
+    free(out);
+}
+
+/* A frame is refused with this, and nothing is changed. */
+static void not_coded(const uint8_t *frame, size_t n, uint8_t refusal, size_t at)
+{
+    uint8_t *lent = copied(frame, n), *out = filled(100);
+    expect(encoded(xara_encode(XARA_AX25, lent, n, out, 100), refusal, 0, 0) && untouched(out, 100), "frame refused", at);
+    expect(memcmp(lent, frame, n) == 0, "frame refused, its bytes", at);
+    free(lent);
+    free(out);
+}
+
+/* A frame is coded as another one is. */
+static void coded_as(const uint8_t *odd, const uint8_t *clean, size_t n, size_t at)
+{
+    uint8_t *lent = copied(odd, n), *other = copied(clean, n), *out = filled(100), *whole = filled(100);
+    XaraEncoded full = xara_encode(XARA_AX25, other, n, whole, 100), a = xara_encode(XARA_AX25, lent, n, out, 100);
+    expect(encoded(full, 0, full.aprs_type, full.length), "frame without white space", at);
+    expect(encoded(a, 0, full.aprs_type, full.length) && memcmp(out, whole, 100) == 0, "frame with white space", at);
+    expect(memcmp(lent, odd, n) == 0 && memcmp(other, clean, n) == 0, "frame with white space, its bytes", at);
+    free(lent);
+    free(other);
+    free(out);
+    free(whole);
+}
+
+/* White space around a call, and around an altitude, which has less. */
+static bool is_white(uint8_t c, bool call)
+{
+    return (c >= 9 && c <= 13) || c == 32 || (call && c >= 28 && c <= 31);
+}
+
+/* A text of a frame with every byte up to 21 before and after it; `shift` is 1 in address fields. */
+static void text_edges(const char *information, size_t place, const char *text, const char *clean, unsigned shift)
+{
+    uint8_t plain[60] = {0x82, 0xA0, 0x40, 0x40, 0x40, 0x40, 0x60, 0x96, 0x62, 0x82, 0x40, 0x40, 0x40, 0x61, 0x03, 0xF0}, odd[60];
+    size_t n = 16 + strlen(information), length = strlen(text);
+    bool altitude = length == 3 && shift == 0;
+    memcpy(plain + 16, information, strlen(information));
+    for (size_t i = 0; i < strlen(clean); i++)
+        plain[place + i] = (uint8_t)(clean[i] << shift);
+    for (uint8_t c = 0; c <= 0x21; c++) {
+        uint8_t refusal = is_white(c, !altitude) ? 0 : altitude ? XARA_REFUSAL_FORMAT : XARA_REFUSAL_BAD_CALL;
+        for (size_t front = 0; front < 2; front++) {
+            memcpy(odd, plain, n);
+            odd[place + (front ? 0 : length)] = (uint8_t)(c << shift);
+            for (size_t i = 0; i < length; i++)
+                odd[place + front + i] = (uint8_t)(text[i] << shift);
+            if (refusal == 0)
+                coded_as(odd, plain, n, c);
+            else
+                not_coded(odd, n, refusal, c);
+        }
+    }
+}
+
+/* The destination's, the source's and the addressee's text, and an altitude. */
+static void white_space(void)
+{
+    text_edges(":A        :x", 0, "AP", "AP", 1);
+    text_edges(":A        :x", 7, "K1A", "K1A", 1);
+    text_edges(":A        :x", 17, "A", "A", 0);
+    text_edges("!4903.50N/00723.75E>/A=000000", 41, "123", "0123", 0);
+}
+
+/* The information is not of the form that its type asks for, and a call has a letter that has no code. */
+static void form_refusals(void)
+{
+    static const uint8_t call[] = {0x80, 0x40, 0x40, 0x40, 0x40, 0x40, 0x60, 0x96,
+                                   0x62, 0x82, 0x40, 0x40, 0x40, 0x61, 0x03, 0xF0};
     static const char information[] = "!4903.50N/00723.75E>/A=00x234";
     uint8_t frame[16 + sizeof information] = {0x82, 0xA0, 0xA4, 0xA6, 0x40, 0x40, 0x60, 0x96,
                                               0x62, 0x82, 0x40, 0x40, 0x40, 0x61, 0x03, 0xF0};
     size_t n = 16 + sizeof information - 1;
     memcpy(frame + 16, information, sizeof information);
-    uint8_t *out = filled(100);
-    expect(xara_encode(0, frame, n, out, 100).refusal == XARA_REFUSAL_FORMAT, "form", 0);
-    expect(untouched(out, 100), "form", 1);
-    free(out);
+    not_coded(frame, n, XARA_REFUSAL_FORMAT, 0);
+    not_coded(call, sizeof call, XARA_REFUSAL_BAD_CALL, 0);
+    uint8_t *lent = copied(frame, n);
+    expect(summed_up(xara_summary(XARA_AX25, lent, n), 0, XARA_POSITION, 1, 0), "summary of a wrong form", 0);
+    free(lent);
 }
 
 /* Fields outside 3 to 512. */
 static void field_refusals(void)
 {
     XaraControl control = {0, 0, 0};
-    uint8_t *message = filled(9), *out = filled(600);
+    uint8_t *message = filled(9), *fragment = filled(1), *out = filled(600);
     size_t fields[] = {0, 1, 2, 513, SIZE_MAX};
     for (size_t i = 0; i < 5; i++) {
-        expect(xara_count_for_field(1, fields[i]).refusal == XARA_REFUSAL_FIELD, "count", fields[i]);
-        expect(xara_fragment(message, 9, fields[i], 0, 0, out, 600).refusal == XARA_REFUSAL_FIELD, "fragment", fields[i]);
-        expect(xara_build_frame(fields[i], message, 1, control, 0, out, 600).refusal == XARA_REFUSAL_FIELD, "frame", fields[i]);
+        size_t field = fields[i];
+        expect(answered(xara_count_for_field(1, field), XARA_REFUSAL_FIELD, 0), "count", field);
+        expect(answered(xara_fragment(message, 9, field, 0, 0, out, 600), XARA_REFUSAL_FIELD, 0), "fragment", field);
+        expect(answered(xara_build_frame(field, fragment, 1, control, 0, out, 600), XARA_REFUSAL_FIELD, 0), "frame", field);
     }
-    expect(untouched(out, 600), "output", 0);
+    expect(untouched(message, 9) && untouched(fragment, 1) && untouched(out, 600), "field's bytes", 0);
     free(message);
+    free(fragment);
     free(out);
 }
 
@@ -284,100 +452,108 @@ static void field_refusals(void)
 static void mask_refusals(void)
 {
     uint8_t *none = filled(0), *out = filled(600);
-    for (int mask = 0; mask < 256; mask++) {
+    for (unsigned mask = 0; mask < 256; mask++) {
         uint8_t refusal = mask == 0xF0 || mask == 0xF8 ? XARA_REFUSAL_EMPTY : XARA_REFUSAL_MASK;
-        expect(xara_fragment(none, 0, 5, (uint8_t)mask, 0, out, 600).refusal == refusal, "mask", (size_t)mask);
+        expect(answered(xara_fragment(none, 0, 5, (uint8_t)mask, 0, out, 600), refusal, 0), "mask", mask);
     }
     expect(untouched(out, 600), "output", 0);
     free(none);
     free(out);
 }
 
+/* A fragment of a message with this first byte is refused with this, and nothing is changed. */
+static void not_sent(uint8_t first, size_t n, size_t field, uint8_t mask, size_t k, uint8_t refusal)
+{
+    uint8_t *message = filled(n), *out = filled(600);
+    message[0] = first;
+    expect(answered(xara_fragment(message, n, field, mask, k, out, 600), refusal, 0), "fragment refused", refusal);
+    expect(message[0] == first && untouched(message + 1, n - 1) && untouched(out, 600), "fragment refused, its bytes", refusal);
+    free(message);
+    free(out);
+}
+
+/* Too long a message, a first byte of 80, one fragment too many under each mask, and a number after the last. */
 static void sender_refusals(void)
 {
-    uint8_t *message = filled(XARA_MAX_MESSAGE + 1), *out = filled(600);
-    message[0] = 0x40;
-    expect(xara_fragment(message, 5001, 512, 0xF0, 0, out, 600).refusal == XARA_REFUSAL_TOO_LONG, "long", 0);
-    expect(xara_count_for_field(5001, 512).refusal == XARA_REFUSAL_TOO_LONG, "long", 1);
-    expect(xara_fragment(message + 1, 9, 5, 0xF0, 0, out, 600).refusal == XARA_REFUSAL_FIRST_BYTE, "first byte", 0);
-    expect(xara_fragment(message, 35, 3, 0xF0, 0, out, 600).refusal == XARA_REFUSAL_COUNT, "18 under F0", 0);
-    expect(xara_fragment(message, 19, 3, 0xF8, 0, out, 600).refusal == XARA_REFUSAL_COUNT, "10 under F8", 0);
-    expect(xara_fragment(message, 9, 5, 0xF0, SIZE_MAX, out, 600).refusal == XARA_REFUSAL_NUMBER, "number", SIZE_MAX);
-    expect(untouched(out, 600), "output", 0);
-    free(message);
+    expect(answered(xara_count_for_field(XARA_MAX_MESSAGE + 1, 512), XARA_REFUSAL_TOO_LONG, 0), "count", XARA_MAX_MESSAGE + 1);
+    not_sent(0x40, XARA_MAX_MESSAGE + 1, 512, XARA_MASK_HF, 0, XARA_REFUSAL_TOO_LONG);
+    not_sent(0x80, 9, 5, XARA_MASK_HF, 0, XARA_REFUSAL_FIRST_BYTE);
+    not_sent(0x40, 35, 3, XARA_MASK_HF, 0, XARA_REFUSAL_COUNT);
+    not_sent(0x40, 19, 3, XARA_MASK_FM, 0, XARA_REFUSAL_COUNT);
+    not_sent(0x40, 9, 5, XARA_MASK_HF, SIZE_MAX, XARA_REFUSAL_NUMBER);
+}
+
+/* The frame of a fragment of so many bytes is refused with this at field 5, and nothing is changed. */
+static void not_framed(size_t n, XaraControl control, uint8_t marker, uint8_t refusal)
+{
+    uint8_t *fragment = filled(n), *out = filled(8);
+    expect(answered(xara_build_frame(5, fragment, n, control, marker, out, 8), refusal, 0), "frame refused", refusal);
+    expect(untouched(fragment, n) && untouched(out, 8), "frame refused, its bytes", refusal);
+    free(fragment);
     free(out);
 }
 
 static void frame_refusals(void)
 {
     XaraControl control = {3, 1, 7}, reply = {4, 0, 0}, hint = {0, 0, 8};
-    uint8_t *fragment = filled(6), *out = filled(600);
-    expect(xara_build_frame(5, fragment, 0, control, 0x14, out, 600).refusal == XARA_REFUSAL_FRAGMENT, "no fragment", 0);
-    expect(xara_build_frame(5, fragment, 6, control, 0x14, out, 600).refusal == XARA_REFUSAL_FRAGMENT, "over the field", 0);
-    expect(xara_build_frame(5, fragment, 5, reply, 0x14, out, 600).refusal == XARA_REFUSAL_MARKER, "marker", 0);
-    expect(xara_build_frame(5, fragment, 5, reply, 0, out, 0).refusal == XARA_REFUSAL_CONTROL, "reply", 0);
-    expect(xara_build_frame(5, fragment, 5, hint, 0, out, 0).refusal == XARA_REFUSAL_CONTROL, "hint", 0);
-    expect(untouched(out, 600), "output", 0);
-    free(fragment);
-    free(out);
+    not_framed(0, control, XARA_TERMINATOR, XARA_REFUSAL_FRAGMENT);
+    not_framed(6, control, XARA_TERMINATOR, XARA_REFUSAL_FRAGMENT);
+    not_framed(5, reply, XARA_TERMINATOR, XARA_REFUSAL_MARKER);
+    not_framed(5, reply, 0, XARA_REFUSAL_CONTROL);
+    not_framed(5, hint, 0, XARA_REFUSAL_CONTROL);
 }
 
-static bool same(XaraReceiver a, XaraReceiver b)
-{
-    return a.held == b.held && a.nfrag == b.nfrag && a.count == b.count && a.crc_mask == b.crc_mask &&
-           (a.overflow != 0) == (b.overflow != 0);
-}
-
-/* A push and a join on a store of so many bytes are refused with this, and nothing is changed. */
-static void refused(XaraReceiver state, size_t size, uint8_t refusal)
+/* A push and a join on a store of so many bytes are refused with this: the state comes back as it was, and nothing is changed. */
+static void refused(XaraReceiver state, size_t size, size_t field, uint8_t refusal)
 {
     uint8_t *store = filled(size), *frame = filled(8);
-    XaraPushed a = xara_receiver_push(state, store, size, frame, 8, 5);
-    expect(a.kind == XARA_REFUSED && a.refusal == refusal && a.length == 0 && same(a.receiver, state), "push refused", refusal);
-    a = xara_receiver_join(state, store, size, frame, 8, 8);
-    expect(a.kind == XARA_REFUSED && a.refusal == refusal && a.length == 0 && same(a.receiver, state), "join refused", refusal);
-    expect(untouched(store, size), "store", size);
+    XaraPushed a = xara_receiver_push(state, store, size, frame, 8, field);
+    expect(pushed(a, XARA_REFUSED, refusal, 0, state), "push refused", refusal);
+    if (refusal != XARA_REFUSAL_FIELD) {
+        a = xara_receiver_join(state, store, size, frame, 8, 8);
+        expect(pushed(a, XARA_REFUSED, refusal, 0, state), "join refused", refusal);
+    }
+    expect(untouched(store, size) && untouched(frame, 8), "bytes of a refused call", size);
     free(store);
     free(frame);
 }
 
-/* Stores of another length, and states with more than a receiver can hold or count: 17. */
+/* Stores of another length, and states with more than a receiver can hold or count: 17, whichever byte says overflow. */
 static void state_refusals(void)
 {
-    XaraReceiver fresh = xara_receiver_new(XARA_MASK_HF).receiver;
     size_t sizes[] = {0, 1, 4999, 5001}, over[] = {1, 2, 1000, SIZE_MAX - 5000};
-    for (size_t i = 0; i < 4; i++) {
-        refused(fresh, sizes[i], XARA_REFUSAL_STATE);
-        refused((XaraReceiver){5000 + over[i], 1, 0, XARA_MASK_HF, 0}, XARA_STORE, XARA_REFUSAL_STATE);
-        refused((XaraReceiver){1, 255 + over[i], 0, XARA_MASK_FM, 0xFF}, XARA_STORE, XARA_REFUSAL_STATE);
-        refused((XaraReceiver){5000 + over[i], 0, 0, 0, 0}, XARA_STORE, XARA_REFUSAL_STATE);
+    uint8_t overflows[] = {0, 1, 7, 0xFF};
+    for (size_t i = 0; i < 16; i++) {
+        size_t more = over[i % 4];
+        uint8_t flag = overflows[i / 4];
+        refused((XaraReceiver){4, 3, 2, XARA_MASK_HF, flag}, sizes[i % 4], 5, XARA_REFUSAL_STATE);
+        refused((XaraReceiver){5000 + more, 1, 9, XARA_MASK_HF, flag}, XARA_STORE, 5, XARA_REFUSAL_STATE);
+        refused((XaraReceiver){1, 255 + more, 9, XARA_MASK_FM, flag}, XARA_STORE, 5, XARA_REFUSAL_STATE);
+        refused((XaraReceiver){5000 + more, 0, 9, 0, flag}, XARA_STORE, 0, XARA_REFUSAL_STATE);
     }
 }
 
-/* Masks that no receiver has: 9. */
+/* Masks that no receiver has: 9. A new receiver that is refused is 0 in every field. */
 static void receiver_masks(void)
 {
-    for (int mask = 0; mask < 256; mask++) {
-        if (mask == 0xF0 || mask == 0xF8)
+    for (unsigned i = 0; i < 256; i++) {
+        uint8_t mask = (uint8_t)i;
+        if (mask == XARA_MASK_HF || mask == XARA_MASK_FM) {
+            expect(fresh(xara_receiver_new(mask), 0, (XaraReceiver){0, 0, 0, mask, 0}), "new", i);
             continue;
-        expect(xara_receiver_new((uint8_t)mask).refusal == XARA_REFUSAL_MASK, "new", (size_t)mask);
-        refused((XaraReceiver){5000, 255, 0, (uint8_t)mask, 1}, XARA_STORE, XARA_REFUSAL_MASK);
+        }
+        expect(fresh(xara_receiver_new(mask), XARA_REFUSAL_MASK, (XaraReceiver){0, 0, 0, 0, 0}), "new refused", i);
+        refused((XaraReceiver){5000, 255, 5, mask, (uint8_t)(i * 7)}, XARA_STORE, 0, XARA_REFUSAL_MASK);
     }
 }
 
 /* Fields outside 3 to 512: 8. */
 static void receiver_fields(void)
 {
-    XaraReceiver fresh = xara_receiver_new(XARA_MASK_FM).receiver;
-    uint8_t *store = filled(XARA_STORE), *frame = filled(8);
     size_t fields[] = {0, 1, 2, 513, SIZE_MAX, SIZE_MAX - 2};
-    for (size_t i = 0; i < 6; i++) {
-        XaraPushed a = xara_receiver_push(fresh, store, XARA_STORE, frame, 8, fields[i]);
-        expect(a.kind == XARA_REFUSED && a.refusal == XARA_REFUSAL_FIELD && same(a.receiver, fresh), "field", fields[i]);
-    }
-    expect(untouched(store, XARA_STORE), "store", 0);
-    free(store);
-    free(frame);
+    for (size_t i = 0; i < 6; i++)
+        for (unsigned overflow = 0; overflow < 256; overflow++)
+            refused((XaraReceiver){7, 3, 9, XARA_MASK_FM, (uint8_t)overflow}, XARA_STORE, fields[i], XARA_REFUSAL_FIELD);
 }
 
 /* In overflow a fragment is dropped and only the overflow may end, whatever is held and whichever byte says overflow. */
@@ -386,18 +562,18 @@ static void overflow_states(void)
     size_t held[] = {0, 1, 4999, 5000}, nfrag[] = {0, 1, 254, 255};
     uint8_t *store = filled(XARA_STORE), *f = filled(3);
     for (unsigned i = 0; i < 16 * 255; i++) {
-        XaraReceiver state = {held[i % 4], nfrag[i / 4 % 4], 7, XARA_MASK_HF, (uint8_t)(1 + i / 16)};
+        XaraReceiver state = {held[i % 4], nfrag[i / 4 % 4], 7, XARA_MASK_HF, (uint8_t)(1 + i / 16)}, after = state;
+        after.overflow = 1;
         f[0] = 0x80;
-        XaraPushed a = xara_receiver_join(state, store, XARA_STORE, f, 3, 3);
-        expect(a.kind == XARA_DROPPED && same(a.receiver, state), "overflow goes on", i);
+        expect(dropped(xara_receiver_join(state, store, XARA_STORE, f, 3, 3), after), "overflow goes on", i);
+        expect(dropped(xara_receiver_join(state, store, XARA_STORE, f, 3, 0), after), "idle in overflow", i);
+        after.overflow = 0;
         f[0] = 0x7F;
-        a = xara_receiver_join(state, store, XARA_STORE, f, 3, 3);
-        state.overflow = 0;
-        expect(a.kind == XARA_DROPPED && same(a.receiver, state), "overflow ends", i);
-        state.held = state.nfrag = 0;
-        expect(same(xara_receiver_reset(a.receiver), state), "reset", i);
+        expect(dropped(xara_receiver_join(state, store, XARA_STORE, f, 3, 3), after), "overflow ends", i);
+        after.held = after.nfrag = 0;
+        expect(same(xara_receiver_reset(state), after), "reset", i);
     }
-    expect(untouched(store, XARA_STORE), "store", 0);
+    expect(untouched(store, XARA_STORE) && f[0] == 0x7F && untouched(f + 1, 2), "bytes in overflow", 0);
     free(store);
     free(f);
 }
@@ -412,9 +588,10 @@ static void made_up(size_t held, size_t nfrag)
     bool over = held != 0 && (nfrag == 255 || held > 4998);
     XaraPushed a = xara_receiver_join(state, store, XARA_STORE, f, 3, 3);
     if (over)
-        expect(a.kind == XARA_DROPPED && same(a.receiver, full) && untouched(store, XARA_STORE), "full", held);
+        expect(dropped(a, full) && untouched(store, XARA_STORE), "full", held);
     else
-        expect(a.kind == XARA_MORE && same(a.receiver, held == 0 ? begun : grown), "made up", held);
+        expect(pushed(a, XARA_MORE, 0, 0, held == 0 ? begun : grown), "made up", held);
+    expect(f[0] == 0x80 && untouched(f + 1, 2), "fragment", held);
     free(store);
     free(f);
 }
@@ -429,21 +606,47 @@ static void made_up_states(void)
 /* Frames of every length but the right one are dropped; of that one, too, where they hold no fragment. */
 static void frame_lengths(void)
 {
-    XaraReceiver fresh = xara_receiver_new(XARA_MASK_FM).receiver;
+    XaraReceiver state = {9, 2, 3, XARA_MASK_FM, 0};
     uint8_t *store = filled(XARA_STORE);
     for (size_t n = 0; n <= 40; n++) {
-        uint8_t *frame = filled(n);
+        uint8_t *frame = filled(n), *kept = filled(n);
         memset(frame, 0, n);
-        XaraPushed a = xara_receiver_push(fresh, store, XARA_STORE, frame, n, 30);
-        expect(a.kind == XARA_DROPPED && same(a.receiver, fresh), "frame of another length", n);
-        a = xara_receiver_join(fresh, store, XARA_STORE, frame, n, n + 1);
-        expect(a.kind == XARA_DROPPED && same(a.receiver, fresh), "beyond the fragment", n);
-        a = xara_receiver_join(fresh, store, XARA_STORE, frame, n, 0);
-        expect(a.kind == XARA_DROPPED && same(a.receiver, fresh), "no fragment", n);
+        memset(kept, 0, n);
+        expect(dropped(xara_receiver_push(state, store, XARA_STORE, frame, n, 30), state), "frame of another length", n);
+        expect(dropped(xara_receiver_join(state, store, XARA_STORE, frame, n, n + 1), state), "beyond the fragment", n);
+        expect(dropped(xara_receiver_join(state, store, XARA_STORE, frame, n, 0), state), "no fragment", n);
+        expect(memcmp(frame, kept, n) == 0, "frame", n);
         free(frame);
+        free(kept);
     }
     expect(untouched(store, XARA_STORE), "store", 0);
     free(store);
+}
+
+/* A message of two fragments is done; heard again with another check byte it is dropped. One fragment alone is always done. */
+static void whole_messages(void)
+{
+    static const uint8_t sent[2][8] = {{0xC0, 0x40, 0xAC, 0xB7, 0x01, 0x01, 0xA3, 0x8C},
+                                       {0x40, 0x00, 0x10, 0x40, 0x14, 0x00, 0x52, 0x42}};
+    static const uint8_t message[] = {0x40, 0xAC, 0xB7, 0x01, 0x00, 0x10, 0x40};
+    uint8_t *store = filled(XARA_STORE), *first = copied(sent[0], 8), *last = copied(sent[1], 8);
+    XaraReceiver state = xara_receiver_new(XARA_MASK_HF).receiver;
+    XaraPushed a = xara_receiver_push(state, store, XARA_STORE, first, 8, 5);
+    expect(pushed(a, XARA_MORE, 0, 0, (XaraReceiver){4, 1, 0x40, XARA_MASK_HF, 0}), "first fragment", 0);
+    a = xara_receiver_push(a.receiver, store, XARA_STORE, last, 8, 5);
+    expect(pushed(a, XARA_DONE, 0, 7, (XaraReceiver){0, 2, 0x40, XARA_MASK_HF, 0}), "last fragment", 0);
+    expect(written(store, XARA_STORE, message, sizeof message), "message", 0);
+    expect(memcmp(first, sent[0], 8) == 0 && memcmp(last, sent[1], 8) == 0, "frames", 0);
+    a = xara_receiver_push(a.receiver, store, XARA_STORE, last, 8, 5);
+    expect(pushed(a, XARA_DONE, 0, 4, (XaraReceiver){0, 1, 0x40, XARA_MASK_HF, 0}), "last fragment alone", 0);
+    first[1] ^= 0x80;
+    a = xara_receiver_push(a.receiver, store, XARA_STORE, first, 8, 5);
+    expect(pushed(a, XARA_MORE, 0, 0, (XaraReceiver){4, 1, 0xC0, XARA_MASK_HF, 0}), "another check byte", 0);
+    a = xara_receiver_push(a.receiver, store, XARA_STORE, last, 8, 5);
+    expect(dropped(a, (XaraReceiver){0, 2, 0xC0, XARA_MASK_HF, 0}), "another check byte", 1);
+    free(store);
+    free(first);
+    free(last);
 }
 
 int main(void)
@@ -453,8 +656,10 @@ int main(void)
     short_frames();
     crc_lengths();
     nothing();
-    coder_refusals();
-    format_refusal();
+    command_refusals();
+    length_refusals();
+    white_space();
+    form_refusals();
     field_refusals();
     mask_refusals();
     sender_refusals();
@@ -465,6 +670,7 @@ int main(void)
     overflow_states();
     made_up_states();
     frame_lengths();
+    whole_messages();
     printf("%lu compared, %lu differ\n", calls, wrong);
     return wrong != 0;
 }

@@ -11,16 +11,41 @@
  *
  * What every call keeps to:
  * - It ends on every input with an answer or with a refusal, whose number is one of enum xara_refusal.
- * - Where it refuses, no lent byte and nothing in a receiver is changed.
- * - Where it answers, it writes the bytes of the answer to the front of the lent output, and leaves all behind them as they
+ * - Where it refuses, it changes no lent byte, and a receiver comes back as it was.
+ * - Where it answers, it writes the bytes of the answer to the front of the lent output, and leaves all bytes after them as they
  *   were. It never writes to an input.
+ * - It sets every field of the struct that it returns. A field that has no meaning in that answer is 0, and each field below says
+ *   when. A flag is 0 or 1 as a byte. Nothing is promised of the padding between the fields.
  *
  * What the caller keeps to, since nothing can test it:
- * - A pointer and the length behind it are so many bytes that may be read, and for an output or a store also written. A pointer
+ * - A pointer and the length after it are so many bytes that may be read, and for an output or a store also written. A pointer
  *   is never NULL, even where the length is 0: any address will do then.
  * - An output or a store overlaps no other buffer of the same call.
  * - Nobody else writes an input, or reads or writes an output or a store, while the call runs.
  * - A size_t has 8 bytes.
+ *
+ * What is promised, with a proof, about a message that xara_fragment accepted: the receiver answers XARA_MORE to each of its
+ * frames but the last and XARA_DONE to the last, and the store then starts with exactly the message. It is so if
+ * - the receiver has the sender's mask;
+ * - the receiver is new, or its last call was an ending: a reset, or a push or join of a fragment that is not empty and whose
+ *   first byte is below 80 (hexadecimal, as all bytes here are);
+ * - the frames of the message arrive in order, undamaged and complete, each once;
+ * - only idle calls stand between them: calls that are refused, frames of another length than field + 3, and frames or fragments
+ *   of no bytes.
+ *
+ * What the air can still do, since the format leaves no room to find it out:
+ * - A frame that is lost may go unnoticed. The first of several fragments carries four check bits of the whole message under mask
+ *   F0, and five under F8. They find 15 of 16 and 31 of 32 faults. Of 4,000 messages that were sent with one middle frame lost,
+ *   225 were still answered with XARA_DONE under F0 and 127 under F8, each with other bytes than were sent.
+ * - A message of one fragment carries no check bits, and neither does the last of several fragments. Heard alone, by a receiver
+ *   that holds nothing and is not in overflow, it is always answered with XARA_DONE.
+ * - A damaged frame is taken for what it says: xara_receiver_push does not look at the CRC at the frame's end.
+ *
+ * What a gateway does about it:
+ * - It checks a frame's CRC before it pushes the frame: the frame's last two bytes, high byte first, must be what
+ *   xara_crc16_genibus answers to all bytes before them. A frame with another CRC is not pushed.
+ * - It calls xara_receiver_reset when the channel was silent, so that the start of a message that was broken off is not joined
+ *   to the next message.
  */
 #ifndef XARA_H
 #define XARA_H
@@ -95,16 +120,18 @@ enum xara_refusal {
 
 /* What a push or a join answers. */
 enum xara_kind {
-    XARA_REFUSED = 0, /* nothing is changed */
+    XARA_REFUSED = 0, /* nothing is changed, in the receiver and in the store */
     XARA_DROPPED = 1, /* the frame or fragment is lost */
     XARA_MORE = 2,    /* the message goes on */
     XARA_DONE = 3     /* the message is the first `length` bytes of the store */
 };
 
-/* 16 bytes. ok with a length or a count, or a refusal's number. */
+/* In each answer look at `ok` or `kind` first: a field that has no meaning there is 0, which may be a value elsewhere. */
+
+/* 16 bytes. A length or a count, or a refusal's number. */
 typedef struct XaraAnswer {
-    bool ok;
-    uint8_t refusal; /* 0 where ok */
+    bool ok;         /* 1 where it answers, 0 where it refuses */
+    uint8_t refusal; /* enum xara_refusal; 0 where ok */
     size_t value;    /* 0 where not ok */
 } XaraAnswer;
 
@@ -119,52 +146,55 @@ typedef struct XaraControl {
  * 24 bytes. A receiver's state, which goes with one store. Each call takes it by value and hands back the next one: keep that,
  * lend the same store again, and write to neither between calls. After XARA_DONE the message may be read from the store until
  * the next call.
+ *
+ * Where a push or a join refuses, it hands back the very struct that came in, byte for byte in every field: an overflow of 7
+ * comes back as 7. Where it answers, overflow comes back as 0 or 1. A reset refuses nothing and hands back an overflow of 0.
  */
 typedef struct XaraReceiver {
-    size_t held;      /* bytes of the store that are held, to 5,000 */
-    size_t nfrag;     /* fragments, to 255 */
-    uint8_t count;    /* the check byte */
+    size_t held;      /* bytes of the store that are held, to 5,000; 0 where no message has begun */
+    size_t nfrag;     /* fragments of the message that is held, to 255; where none is held, 0 or those of the last message */
+    uint8_t count;    /* the check byte of the message that is held, or of an earlier one; 0 in a new receiver, kept by a reset */
     uint8_t crc_mask; /* XARA_MASK_HF or XARA_MASK_FM */
-    uint8_t overflow; /* any byte but 0: the rest of a message that is too long is dropped */
+    uint8_t overflow; /* 0 or 1, and any byte but 0 is taken for 1: the rest of a message that is too long is dropped */
 } XaraReceiver;
 
-/* 32 bytes. ok with a new receiver, or a refusal's number. */
+/* 32 bytes. A new receiver, or a refusal's number. */
 typedef struct XaraFresh {
-    bool ok;
-    uint8_t refusal; /* 0 where ok */
-    XaraReceiver receiver;
+    bool ok;               /* 1 where it answers, 0 where it refuses */
+    uint8_t refusal;       /* enum xara_refusal; 0 where ok */
+    XaraReceiver receiver; /* 0 in every field where not ok */
 } XaraFresh;
 
-/* 40 bytes. What a push or a join answers, and the receiver from here on; where it refuses, the receiver as it was. */
+/* 40 bytes. What a push or a join answers, and the receiver from here on. */
 typedef struct XaraPushed {
-    uint8_t kind;    /* enum xara_kind */
-    uint8_t refusal; /* 0 but for XARA_REFUSED */
-    size_t length;   /* 0 but for XARA_DONE */
-    XaraReceiver receiver;
+    uint8_t kind;          /* enum xara_kind */
+    uint8_t refusal;       /* enum xara_refusal where kind is XARA_REFUSED, else 0 */
+    size_t length;         /* the message's length where kind is XARA_DONE, else 0 */
+    XaraReceiver receiver; /* the very one that came in where kind is XARA_REFUSED; else with overflow 0 or 1 */
 } XaraPushed;
 
-/* 16 bytes. ok with the data's type and the message's length, or a refusal's number. */
+/* 16 bytes. The data's type and the message's length, or a refusal's number. */
 typedef struct XaraEncoded {
-    bool ok;
-    uint8_t refusal;   /* 0 where ok */
+    bool ok;           /* 1 where it answers, 0 where it refuses */
+    uint8_t refusal;   /* enum xara_refusal; 0 where ok */
     uint8_t aprs_type; /* enum xara_aprs_type; 0 where not ok */
     size_t length;     /* 0 where not ok */
 } XaraEncoded;
 
-/* 16 bytes. ok with what a frame is, or a refusal's number. */
+/* 16 bytes. What a frame is, or a refusal's number. */
 typedef struct XaraSummary {
-    bool ok;
-    uint8_t refusal;   /* 0 where ok */
-    uint8_t aprs_type; /* enum xara_aprs_type */
-    bool ui;           /* control is 03 */
-    size_t digis;      /* digipeaters, to 8 */
+    bool ok;           /* 1 where it answers, 0 where it refuses */
+    uint8_t refusal;   /* enum xara_refusal; 0 where ok */
+    uint8_t aprs_type; /* enum xara_aprs_type; 0 where not ok */
+    bool ui;           /* 1 where control is 03, else 0; 0 where not ok */
+    size_t digis;      /* digipeaters, to 8; 0 where not ok */
 } XaraSummary;
 
-/* 16 bytes. ok with the command and the data's length, or a refusal's number. */
+/* 16 bytes. The command and the data's length, or a refusal's number. */
 typedef struct XaraDecoded {
-    bool ok;
-    uint8_t refusal; /* 0 where ok */
-    uint8_t command; /* enum xara_command */
+    bool ok;         /* 1 where it answers, 0 where it refuses */
+    uint8_t refusal; /* enum xara_refusal; 0 where ok */
+    uint8_t command; /* enum xara_command; 0 where not ok */
     size_t length;   /* 0 where not ok */
 } XaraDecoded;
 
@@ -186,17 +216,18 @@ XaraAnswer xara_fragment(const uint8_t *message, size_t message_len, size_t fiel
 
 /*
  * The frame of a fragment to the front of out; answers its length, which is field + 3.
- * The marker stands behind a fragment that is shorter than the field, and may be any byte but 14.
+ * The marker stands after a fragment that is shorter than the field, and may be any byte but 14.
  * Refuses with FIELD, FRAGMENT, MARKER, CONTROL, OUTPUT, in this order.
  */
 XaraAnswer xara_build_frame(size_t field, const uint8_t *data, size_t data_len, XaraControl control, uint8_t marker, uint8_t *out,
                             size_t out_len);
 
-/* A receiver that holds nothing. Refuses with MASK. */
+/* A receiver that holds nothing: all fields are 0 but crc_mask. Refuses with MASK. */
 XaraFresh xara_receiver_new(uint8_t crc_mask);
 
 /*
- * A frame that was heard, of field + 3 bytes; one of another length is dropped. The CRC at its end is not looked at.
+ * A frame that was heard, of field + 3 bytes; one of another length is dropped. The CRC at its end is not looked at: check it
+ * before the call.
  * The store has exactly XARA_STORE bytes, whatever they are at first.
  * Refuses with STATE, MASK, FIELD, in this order.
  */
@@ -209,7 +240,10 @@ XaraPushed xara_receiver_push(XaraReceiver receiver, uint8_t *store, size_t stor
  */
 XaraPushed xara_receiver_join(XaraReceiver receiver, uint8_t *store, size_t store_len, const uint8_t *f, size_t f_len, size_t n);
 
-/* Nothing held, fragments 0, no overflow; check byte and mask are kept. Refuses nothing and touches no store. */
+/*
+ * A receiver that holds nothing from here on: held, nfrag and overflow are 0, count and crc_mask are kept. The next fragment
+ * starts a message. Refuses nothing and touches no store. Call it when the channel was silent.
+ */
 XaraReceiver xara_receiver_reset(XaraReceiver receiver);
 
 /*

@@ -1,8 +1,9 @@
 //! The calls that keep no state: CRC, counts, fragments and frames.
 
-use crate::lent::Lent;
-use crate::tally::{Kind, Tally};
-use crate::xara;
+use crate::lent::{Input, Lent};
+use crate::tally::{Kind, Row, Tally};
+use crate::writing::Writing;
+use crate::xara::{self, Answer, Control};
 use answers::hex::to_hex;
 use answers::random::Random;
 use answers::{FIELDS, MASKS, MAX_MESSAGE, most};
@@ -10,14 +11,18 @@ use answers::{FIELDS, MASKS, MAX_MESSAGE, most};
 pub fn crc(r: &mut Random, tally: &mut Tally) {
     let n = r.below(6001);
     let data = r.bytes(n);
-    tally.compare(Kind::Crc, (answers::crc(&data), &[]), (xara::crc(&data), &[]), || format!("crc {}", to_hex(&data)));
+    let mut input = Input::new(&data);
+    let ours = xara::crc(&mut input.lent[..]);
+    let expected = Row { answer: answers::crc(&data), written: &[], read: &data };
+    let ours = Row { answer: ours, written: &[], read: &input.lent };
+    tally.compare(Kind::Crc, expected, ours, || format!("crc {}", to_hex(&data)));
 }
 
 /// Every total to 5,002 with every field to 514.
 pub fn all_counts(tally: &mut Tally) {
     for field in 0..=FIELDS.end() + 2 {
         for total in 0..=MAX_MESSAGE + 2 {
-            count(total, field, tally);
+            count(Kind::Count, total, field, tally);
         }
     }
 }
@@ -30,17 +35,17 @@ pub fn some_count(r: &mut Random, tally: &mut Tally) {
     };
     let total = draw(&[0, 1, 2, 3, 511, 512, 513, MAX_MESSAGE - 1, MAX_MESSAGE, MAX_MESSAGE + 1, usize::MAX]);
     let field = draw(&[0, 1, 2, 3, 4, 5, 511, 512, 513, usize::MAX - 1, usize::MAX]);
-    count(total, field, tally);
+    count(Kind::Count, total, field, tally);
 }
 
-fn count(total: usize, field: usize, tally: &mut Tally) {
-    let ours = xara::count(total, field);
-    tally.compare(Kind::Count, (answers::count(total, field), &[]), (ours, &[]), || format!("count {total} {field}"));
+/// A count, and whether it is as expected.
+pub fn count(kind: Kind, total: usize, field: usize, tally: &mut Tally) -> bool {
+    let expected = Row::of(Answer::of(answers::count(total, field)));
+    tally.compare(kind, expected, Row::of(xara::count(total, field)), || format!("count {total} {field}"))
 }
 
-/// Messages of every length around an edge of this field, under both masks and a wrong one. With `wrong`, the limit of
-/// the source is expected, 18 and 10, which is not ours.
-pub fn fragments(field: usize, wrong: bool, r: &mut Random, tally: &mut Tally) {
+/// Messages of every length around an edge of this field, under both masks and a wrong one.
+pub fn fragments(field: usize, r: &mut Random, tally: &mut Tally) {
     for mask in [MASKS[0], MASKS[1], r.byte()] {
         for total in lengths(field, mask, r) {
             let mut message = r.bytes(total);
@@ -49,7 +54,7 @@ pub fn fragments(field: usize, wrong: bool, r: &mut Random, tally: &mut Tally) {
             {
                 *first &= 0x7F;
             }
-            fragments_of(&message, field, mask, wrong, r, tally);
+            fragments_of(&message, field, mask, r, tally);
         }
     }
 }
@@ -68,9 +73,9 @@ fn lengths(field: usize, mask: u8, r: &mut Random) -> Vec<usize> {
     list
 }
 
-/// Every fragment of a message and some behind the last, with outputs that are too short, exact and longer.
-fn fragments_of(message: &[u8], field: usize, mask: u8, wrong: bool, r: &mut Random, tally: &mut Tally) {
-    let split = answers::sent(message, field, mask, most(mask) + usize::from(wrong));
+/// Every fragment of a message and some after the last, with outputs that are too short, exact and longer.
+fn fragments_of(message: &[u8], field: usize, mask: u8, r: &mut Random, tally: &mut Tally) {
+    let split = answers::sent(message, field, mask, most(mask));
     let count = split.as_ref().map_or(1, Vec::len);
     for k in (0..count + 2).chain([r.number() as usize, usize::MAX]) {
         let expected = match &split {
@@ -78,26 +83,39 @@ fn fragments_of(message: &[u8], field: usize, mask: u8, wrong: bool, r: &mut Ran
             Ok(list) => list.get(k).map(Vec::as_slice).ok_or(13),
         };
         let exact = expected.map_or(field.min(512), <[u8]>::len);
-        for room in [0, exact.saturating_sub(1), exact, exact + 1 + r.below(40)] {
-            fragment(message, field, mask, k, expected, Lent::new(r, room), tally);
-        }
+        let rooms = [0, exact.saturating_sub(1), exact, exact + 1 + r.below(40)];
+        let number = Number { field, mask, k };
+        fragment(Kind::Fragment, message, number, expected, rooms.map(|room| Lent::new(r, room)), tally);
     }
 }
 
-fn fragment(
+/// Which fragment of a message.
+#[derive(Clone, Copy)]
+pub struct Number {
+    pub field: usize,
+    pub mask: u8,
+    pub k: usize,
+}
+
+/// A fragment with these outputs, and whether all is as expected.
+pub fn fragment(
+    kind: Kind,
     message: &[u8],
-    field: usize,
-    mask: u8,
-    k: usize,
+    number: Number,
     expected: Result<&[u8], u8>,
-    mut out: Lent,
+    outputs: impl IntoIterator<Item = Lent>,
     tally: &mut Tally,
-) {
-    let (answer, bytes) = out.after(expected);
-    let ours = xara::fragment(message, field, mask, k, out.part());
-    tally.compare(Kind::Fragment, (answer, &bytes), (ours, &out.bytes), || {
-        format!("split {field} {mask:02X} {}\nfragment {k}, {}", to_hex(message), out.told())
-    });
+) -> bool {
+    let Number { field, mask, k } = number;
+    let call = Writing {
+        kind,
+        input: Input::new(message),
+        expected,
+        answer: &Answer::of,
+        call: &|message, out| xara::fragment(message, field, mask, k, out),
+        told: &|| format!("split {field} {mask:02X} {}\nfragment {k}", to_hex(message)),
+    };
+    call.compare(outputs, tally)
 }
 
 /// Frames of this field with every reply to 4 and every hint to 8.
@@ -106,34 +124,54 @@ pub fn frames(field: usize, r: &mut Random, tally: &mut Tally) {
         for hint in 0..=8 {
             for compressed in [0, 1] {
                 let compressed = if r.below(4) == 0 { compressed * r.byte() } else { compressed };
-                frame(field, xara::Control { reply, compressed, hint }, r, tally);
+                frame(field, Control { reply, compressed, hint }, r, tally);
             }
         }
     }
-    frame(field, xara::Control { reply: r.byte(), compressed: r.byte(), hint: r.byte() }, r, tally);
+    frame(field, Control { reply: r.byte(), compressed: r.byte(), hint: r.byte() }, r, tally);
 }
 
 /// Frames of this field with drawn data, marker and room.
-fn frame(field: usize, control: xara::Control, r: &mut Random, tally: &mut Tally) {
+fn frame(field: usize, control: Control, r: &mut Random, tally: &mut Tally) {
     let near = field.min(512);
     let n = [0, 1, near / 2, near.saturating_sub(2), near.saturating_sub(1), near, near, near + 1, r.below(near + 1)];
     let n = n[r.below(n.len())];
     let data = if r.below(8) == 0 { vec![0x14; n] } else { r.bytes(n) };
     let marker = if r.below(8) == 0 { 0x14 } else { r.byte() };
     let room = [0, near + 2, near + 3, near + 3, near + 4, near + r.below(40)][r.below(6)];
-    framed(field, &data, control, marker, Lent::new(r, room), tally);
+    framed(Kind::Frame, &data, Head { field, control, marker }, [Lent::new(r, room)], tally);
 }
 
-fn framed(field: usize, data: &[u8], control: xara::Control, marker: u8, mut out: Lent, tally: &mut Tally) {
-    let expected = answers::framed(field, data, control.reply, control.compressed != 0, control.hint, marker);
-    let (answer, bytes) = out.after(expected.as_ref().map(Vec::as_slice).map_err(|&refusal| refusal));
-    let ours = xara::frame(field, data, control, marker, out.part());
-    tally.compare(Kind::Frame, (answer, &bytes), (ours, &out.bytes), || {
-        let xara::Control { reply, compressed, hint } = control;
-        let compressed = u8::from(compressed != 0);
-        let data = to_hex(data);
-        format!("frame {field} {reply} {compressed} {hint} {marker:02X} {data}\n{}", out.told())
-    });
+/// What a frame has beside its fragment.
+#[derive(Clone, Copy, Debug)]
+pub struct Head {
+    pub field: usize,
+    pub control: Control,
+    pub marker: u8,
+}
+
+/// The frame of a fragment with these outputs: the frame that the source builds, where all is as expected.
+pub fn framed(
+    kind: Kind,
+    data: &[u8],
+    head: Head,
+    outputs: impl IntoIterator<Item = Lent>,
+    tally: &mut Tally,
+) -> Option<Vec<u8>> {
+    let Head { field, control, marker } = head;
+    let Control { reply, compressed, hint } = control;
+    let compressed = u8::from(compressed != 0);
+    let expected = answers::framed(field, data, reply, compressed == 1, hint, marker);
+    let call = Writing {
+        kind,
+        input: Input::new(data),
+        expected: expected.as_deref().map_err(|&refusal| refusal),
+        answer: &Answer::of,
+        call: &|data, out| xara::frame(field, data, control, marker, out),
+        told: &|| format!("frame {field} {reply} {compressed} {hint} {marker:02X} {}", to_hex(data)),
+    };
+    let same = call.compare(outputs, tally);
+    if same { expected.ok() } else { None }
 }
 
 /// A fragment and its frame, with outputs of every length from 0 to one more than the answer's.
@@ -146,13 +184,12 @@ pub fn every_room(field: usize, r: &mut Random, tally: &mut Tally) {
     let split = answers::sent(&message, field, mask, answers::most(mask));
     let k = r.below(split.as_ref().map_or(1, Vec::len));
     let expected = split.as_ref().map(|list| &list[k][..]).map_err(|&refusal| refusal);
-    for room in 0..=expected.map_or(field, <[u8]>::len) + 1 {
-        fragment(&message, field, mask, k, expected, Lent::new(r, room), tally);
-    }
-    let control = xara::Control { reply: r.below(4) as u8, compressed: r.byte(), hint: r.below(8) as u8 };
-    for room in 0..=field + 4 {
-        framed(field, expected.unwrap_or(&message[..1]), control, 0x01, Lent::new(r, room), tally);
-    }
+    let rooms: Vec<Lent> = (0..=expected.map_or(field, <[u8]>::len) + 1).map(|room| Lent::new(r, room)).collect();
+    fragment(Kind::Fragment, &message, Number { field, mask, k }, expected, rooms, tally);
+    let control = Control { reply: r.below(4) as u8, compressed: r.byte(), hint: r.below(8) as u8 };
+    let rooms: Vec<Lent> = (0..=field + 4).map(|room| Lent::new(r, room)).collect();
+    let head = Head { field, control, marker: 0x01 };
+    framed(Kind::Frame, expected.unwrap_or(&message[..1]), head, rooms, tally);
     tally.every_room();
     tally.every_room();
 }

@@ -1,9 +1,10 @@
 //! Histories of pushes, joins and resets, and states that a caller makes up.
 
+use crate::lent::Input;
 use crate::receiver::Pair;
 use crate::rules::{self, Call};
-use crate::tally::{Kind, Tally};
-use crate::xara;
+use crate::tally::{Kind, Row, Tally};
+use crate::xara::{self, Fresh, Pushed};
 use answers::MASKS;
 use answers::MAX_MESSAGE;
 use answers::random::Random;
@@ -11,12 +12,7 @@ use answers::random::Random;
 /// A new receiver of any mask, and with an accepted one a history.
 pub fn history(r: &mut Random, tally: &mut Tally) {
     let mask = if r.below(32) == 0 { r.byte() } else { r.one_of(&MASKS) };
-    let ours = xara::Receiver::new(mask);
-    let fresh = xara::Receiver { held: 0, nfrag: 0, count: 0, crc_mask: mask, overflow: 0 };
-    let expected = if MASKS.contains(&mask) { Ok(fresh) } else { Err(9) };
-    tally.compare(Kind::New, (expected, &[]), (ours, &[]), || format!("new a {mask:02X}"));
-    let Ok(ours) = ours else { return };
-    let mut pair = Pair::new(mask, ours, r.bytes(MAX_MESSAGE));
+    let Some(mut pair) = new(Kind::New, mask, r, tally) else { return };
     match r.below(16) {
         0 => many_fragments(&mut pair, mask, r, tally),
         1 => many_bytes(&mut pair, mask, r, tally),
@@ -24,6 +20,16 @@ pub fn history(r: &mut Random, tally: &mut Tally) {
         _ => traffic(&mut pair, mask, r, tally),
     }
     pair.state(tally);
+}
+
+/// A new receiver with any store; none where its mask is refused, or where it is not as expected.
+pub fn new(kind: Kind, mask: u8, r: &mut Random, tally: &mut Tally) -> Option<Pair> {
+    let ours = xara::Receiver::fresh(mask);
+    let fresh = xara::Receiver { held: 0, nfrag: 0, count: 0, crc_mask: mask, overflow: 0 };
+    let expected = Fresh::of(if MASKS.contains(&mask) { Ok(fresh) } else { Err(9) });
+    let same = tally.compare(kind, Row::of(expected), Row::of(ours), || format!("new a {mask:02X}"));
+    let fresh = ours.told().ok().filter(|_| same)?;
+    Some(Pair::new(mask, fresh, r.bytes(MAX_MESSAGE)))
 }
 
 /// Two senders whose frames come in turn, with faults among them.
@@ -39,7 +45,7 @@ fn traffic(pair: &mut Pair, mask: u8, r: &mut Random, tally: &mut Tally) {
         } else {
             heard(pair, fragment, sender.field, r, tally);
         }
-        sometimes_state(pair, r, tally);
+        between_calls(pair, r, tally);
     }
 }
 
@@ -69,17 +75,15 @@ fn run(pair: &mut Pair, fragments: Vec<Vec<u8>>, field: usize, r: &mut Random, t
         } else {
             heard(pair, fragment, field, r, tally);
         }
-        if r.below(64) == 0 {
-            pair.state(tally);
-        }
+        between_calls(pair, r, tally);
     }
     pair.state(tally);
 }
 
-/// Frames and fragments of any bytes, of small fields.
+/// Frames and fragments of any bytes, of small fields, one of which is refused.
 fn any_bytes(pair: &mut Pair, r: &mut Random, tally: &mut Tally) {
     for _ in 0..60 {
-        let field = 3 + r.below(6);
+        let field = 2 + r.below(7);
         let size = r.below(9);
         let alphabets: [&[u8]; 3] = [&[0x14, 0x00, 0x80, 0x94], &[0x14, 0x41, 0xC1, 0x01], &[0xFF, 0x80, 0x7F, 0x14]];
         let alphabet = alphabets[r.below(3)];
@@ -87,73 +91,70 @@ fn any_bytes(pair: &mut Pair, r: &mut Random, tally: &mut Tally) {
             |n: usize| if r.below(2) == 0 { r.bytes(n) } else { (0..n).map(|_| r.one_of(alphabet)).collect() };
         let (frame, f) = (drawn(field + 3), drawn(size));
         match r.below(8) {
-            0..4 => pair.push(field, frame, tally),
-            4..7 => pair.join(r.below(size + 2), f, tally),
-            _ => pair.join(size, f, tally),
+            0..4 => pair.push(field, &frame, tally),
+            4..7 => pair.join(r.below(size + 2), &f, tally),
+            _ => pair.join(size, &f, tally),
         }
         if r.below(40) == 0 {
             pair.reset(tally);
         }
-        pair.show_overflow(r.byte());
-        sometimes_state(pair, r, tally);
+        between_calls(pair, r, tally);
     }
 }
 
 /// A sender's fragment, mostly in its frame.
 fn heard(pair: &mut Pair, fragment: Vec<u8>, field: usize, r: &mut Random, tally: &mut Tally) {
     match r.below(4) {
-        0 => pair.join(fragment.len(), fragment, tally),
-        _ => pair.push(field, framed(&fragment, field, r), tally),
+        0 => pair.join(fragment.len(), &fragment, tally),
+        _ => pair.push(field, &framed(&fragment, field, r), tally),
     }
 }
 
 /// A fragment that comes damaged, cut, not at all or twice, in a frame of another length, with another field, or with
 /// something else in its place.
 fn fault(pair: &mut Pair, mut fragment: Vec<u8>, field: usize, r: &mut Random, tally: &mut Tally) {
-    let mut frame = framed(&fragment, field, r);
+    let frame = framed(&fragment, field, r);
     match r.below(14) {
         0 => {}
         1 => {
-            pair.push(field, frame.clone(), tally);
-            pair.push(field, frame, tally);
+            pair.push(field, &frame, tally);
+            pair.push(field, &frame, tally);
         }
-        2 | 3 => {
+        2..7 => pair.push(field, &damaged(frame, field, r), tally),
+        7 => pair.push([0, 1, 2, 513, 514, 515, usize::MAX, field + 1, field - 1][r.below(9)], &frame, tally),
+        8 => pair.join([0, fragment.len() + 1, usize::MAX][r.below(3)], &fragment, tally),
+        9 => pair.join(1 + r.below(fragment.len()), &fragment, tally),
+        10 => {
+            fragment.truncate(1);
+            fragment[0] |= 0x80;
+            pair.join(1, &fragment, tally);
+        }
+        11 => pair.join(1, &[0x80 | r.byte(), r.byte()], tally),
+        12 => {
+            fragment[0] ^= 0x80;
+            pair.push(field, &framed(&fragment, field, r), tally);
+        }
+        _ => pair.reset(tally),
+    }
+}
+
+/// A frame with some bits changed, with bytes cut off or added, or with a 14 in its field.
+fn damaged(mut frame: Vec<u8>, field: usize, r: &mut Random) -> Vec<u8> {
+    match r.below(5) {
+        0 | 1 => {
             for _ in 0..1 + r.below(3) {
                 let at = r.below(frame.len());
                 frame[at] ^= 1 << r.below(8);
             }
-            pair.push(field, frame, tally);
         }
-        4 => {
-            frame.truncate(r.below(frame.len()));
-            pair.push(field, frame, tally);
-        }
-        5 => {
+        2 => frame.truncate(r.below(frame.len())),
+        3 => {
             let more = 1 + r.below(5);
             frame.extend(r.bytes(more));
-            pair.push(field, frame, tally);
         }
-        6 => pair.push([0, 1, 2, 513, 514, 515, usize::MAX, field + 1, field - 1][r.below(9)], frame, tally),
-        7 => {
-            let at = r.below(field);
-            frame[at] = 0x14;
-            pair.push(field, frame, tally);
-        }
-        8 => pair.join([0, fragment.len() + 1, usize::MAX][r.below(3)], fragment, tally),
-        9 => pair.join(1 + r.below(fragment.len()), fragment, tally),
-        10 => {
-            fragment.truncate(1);
-            fragment[0] |= 0x80;
-            pair.join(1, fragment, tally);
-        }
-        11 => pair.join(1, vec![0x80 | r.byte(), r.byte()], tally),
-        12 => {
-            fragment[0] ^= 0x80;
-            pair.push(field, framed(&fragment, field, r), tally);
-        }
-        _ => pair.reset(tally),
+        _ => frame[r.below(field)] = 0x14,
     }
-    pair.show_overflow(r.byte());
+    frame
 }
 
 /// The source's frame of a fragment; a marker of 14, which we refuse, is among those heard.
@@ -162,11 +163,14 @@ fn framed(fragment: &[u8], field: usize, r: &mut Random) -> Vec<u8> {
     answers::frame(field, fragment, reply, r.below(2) == 0, hint, r.byte())
 }
 
-/// The state is slow to read where much is held.
-fn sometimes_state(pair: &Pair, r: &mut Random, tally: &mut Tally) {
-    if r.below(if pair.held() < 100 { 8 } else { 200 }) == 0 {
+/// Our state against the source's own: always where few bytes are held, and now and then where many are, since reading
+/// it is slow then. With the state that the rules have ours is compared after every call. Then an overflow is shown to the
+/// next call as any byte.
+fn between_calls(pair: &mut Pair, r: &mut Random, tally: &mut Tally) {
+    if pair.held() < 200 || r.below(100) == 0 {
         pair.state(tally);
     }
+    pair.show_overflow(r.byte());
 }
 
 /// Messages of any length, one after the other, in fragments of one field.
@@ -259,22 +263,24 @@ impl MadeUp {
 
     fn call(&mut self, call: Call, tally: &mut Tally) {
         let before = self.ours;
+        let mut input = Input::new(call.bytes());
         let (answer, state) = rules::answer(self.state, &mut self.expected, call);
-        let (heard, after) = match call {
-            Call::Push(frame, field) => before.push(&mut self.store, frame, field),
-            Call::Join(f, n) => before.join(&mut self.store, f, n),
-        };
-        (self.ours, self.state) = (after, state);
+        let ours = call.on(before, &mut self.store, &mut input);
+        (self.ours, self.state) = (ours.receiver, state);
         tally.made_up(answer);
-        tally.compare(Kind::MadeUp, ((answer, state), &self.expected), ((heard, after), &self.store), || {
+        let expected = Row { answer: Pushed::of(answer, state), written: &self.expected, read: input.kept };
+        let ours = Row { answer: ours, written: &self.store, read: &input.lent };
+        tally.compare(Kind::MadeUp, expected, ours, || {
             format!("{before:?}\nstore of {}, {call:02X?}", self.store.len())
         });
     }
 
     fn reset(&mut self, tally: &mut Tally) {
         let before = self.ours;
-        self.state = xara::Receiver { held: 0, nfrag: 0, overflow: 0, ..before };
+        self.state = rules::reset(self.state);
         self.ours = before.reset();
-        tally.compare(Kind::Reset, (self.state, &self.expected), (self.ours, &self.store), || format!("{before:?}"));
+        let expected = Row { answer: self.state, written: &self.expected, read: &[] };
+        let ours = Row { answer: self.ours, written: &self.store, read: &[] };
+        tally.compare(Kind::Reset, expected, ours, || format!("{before:?}"));
     }
 }

@@ -1,11 +1,16 @@
-//! Journeys: data is coded, cut into fragments, framed, heard or not, joined and decoded, on each side by its own calls.
+//! Journeys: data is coded, cut into fragments, framed, heard or not, joined and decoded. Each call gets what the call
+//! before it answered, which is the same on both sides, or the journey ends there.
 
-use crate::codings::MOST_DECODED;
+use crate::calls::{self, Head, Number};
+use crate::codings;
+use crate::histories;
+use crate::lent::Lent;
+use crate::receiver::Pair;
+use crate::rules::Call;
 use crate::tally::{Kind, Tally};
-use crate::xara::{self, Heard};
-use answers::hex::to_hex;
+use crate::xara::{Control, Heard};
 use answers::random::Random;
-use answers::{Answer, FIELDS, MASKS, MAX_MESSAGE, frames, most};
+use answers::{FIELDS, MASKS, MAX_MESSAGE, most};
 
 /// What happens to a frame on the air.
 #[derive(Clone, Copy, Debug)]
@@ -17,83 +22,70 @@ enum Fate {
     Changed(usize),
 }
 
-/// What is sent, and what happens to its frames.
-#[derive(Debug)]
+/// How data is sent, and what happens to its frames.
 struct Journey {
-    field: usize,
     mask: u8,
-    control: xara::Control,
-    marker: u8,
+    head: Head,
     fates: Vec<Fate>,
 }
 
-/// An answer on the way.
-#[derive(Debug, PartialEq)]
-enum Step {
-    Coded(Result<(Vec<u8>, u8), u8>),
-    Cut(Result<Vec<Vec<u8>>, u8>),
-    Framed(Result<Vec<u8>, u8>),
-    Pushed(Result<Answer, Heard>),
-    Decoded(Result<(u8, Vec<u8>), u8>),
-}
-
-/// The calls of one side. A receiver is new where the side is.
-trait Side {
-    fn encode(&self, command: u8, data: &[u8]) -> Result<(Vec<u8>, u8), u8>;
-    fn fragments(&self, message: &[u8], field: usize, mask: u8) -> Result<Vec<Vec<u8>>, u8>;
-    fn frame(&self, field: usize, data: &[u8], control: xara::Control, marker: u8) -> Result<Vec<u8>, u8>;
-    fn push(&mut self, frame: &[u8], field: usize) -> Result<Answer, Heard>;
-    fn decode(&self, message: &[u8]) -> Result<(u8, Vec<u8>), u8>;
-}
-
-/// The same journey on both sides: every answer on the way is the same.
+/// Some data on its journey. Counted is whether what is decoded last is the data.
 pub fn journey(r: &mut Random, tally: &mut Tally) {
-    let (command, data) = frames::data(r);
+    let (command, data) = codings::data(r);
     let journey = Journey::new(r);
-    let Ok(receiver) = xara::Receiver::new(journey.mask) else { return };
-    let expected = journey.travel(command, &data, Source(answers::Receiver::new(journey.mask)));
-    let ours = journey.travel(command, &data, Ours(receiver, r.bytes(MAX_MESSAGE)));
-    if let Some(Step::Decoded(Ok((_, arrived)))) = expected.last() {
-        tally.arrived(*arrived == data);
+    let expected = answers::encode(command, &data);
+    let same = codings::encoded(Kind::Journey, command, &data, &expected, vec![Lent::new(r, MAX_MESSAGE)], tally);
+    let Some((message, _)) = expected.ok().filter(|_| same) else { return };
+    if let Some(arrived) = journey.travel(&message, r, tally) {
+        tally.arrived(arrived == data);
     }
-    let same = expected.iter().zip(&ours).take_while(|(a, b)| a == b).count();
-    tally.compare(Kind::Journey, (expected.get(same), &[]), (ours.get(same), &[]), || {
-        format!("encode {command} {}\nstep {same} of {journey:?}", to_hex(&data))
-    });
 }
 
 impl Journey {
     fn new(r: &mut Random) -> Self {
         let fields = if r.below(4) == 0 { 30 } else { FIELDS.count() };
         let field = FIELDS.start() + r.below(fields);
-        let control = xara::Control { reply: r.below(4) as u8, compressed: r.below(2) as u8, hint: r.below(8) as u8 };
+        let control = Control { reply: r.below(4) as u8, compressed: r.below(2) as u8, hint: r.below(8) as u8 };
         let mask = r.one_of(&MASKS);
-        Journey { field, mask, control, marker: r.byte(), fates: fates(r, most(mask)) }
+        Journey { mask, head: Head { field, control, marker: r.byte() }, fates: fates(r, most(mask)) }
     }
 
-    /// All answers, up to the first refusal of the sender's calls.
-    fn travel(&self, command: u8, data: &[u8], mut side: impl Side) -> Vec<Step> {
-        let mut steps = vec![Step::Coded(side.encode(command, data))];
-        let Some(Step::Coded(Ok((message, _)))) = steps.last() else { return steps };
-        let fragments = side.fragments(message, self.field, self.mask);
-        steps.push(Step::Cut(fragments.clone()));
-        for (fragment, &fate) in fragments.unwrap_or_default().iter().zip(&self.fates) {
-            let frame = side.frame(self.field, fragment, self.control, self.marker);
-            steps.push(Step::Framed(frame.clone()));
-            let Ok(frame) = frame else { return steps };
+    /// The message is sent and heard: what is decoded last, if anything.
+    fn travel(&self, message: &[u8], r: &mut Random, tally: &mut Tally) -> Option<Vec<u8>> {
+        let mut pair = histories::new(Kind::Journey, self.mask, r, tally)?;
+        let mut arrived = None;
+        for (fragment, &fate) in self.cut(message, r, tally)?.iter().zip(&self.fates) {
+            let out = Lent::new(r, self.head.field + 3);
+            let frame = calls::framed(Kind::Journey, fragment, self.head, [out], tally)?;
             for frame in on_air(frame, fate) {
-                self.hear(&frame, &mut side, &mut steps);
+                arrived = self.hear(&frame, &mut pair, r, tally)?.or(arrived);
             }
         }
-        steps
+        arrived
     }
 
-    /// A frame is pushed, and the message that is done by it decoded.
-    fn hear(&self, frame: &[u8], side: &mut impl Side, steps: &mut Vec<Step>) {
-        let pushed = side.push(frame, self.field);
-        let decoded = if let Ok(Answer::Done(message)) = &pushed { Some(side.decode(message)) } else { None };
-        steps.push(Step::Pushed(pushed));
-        steps.extend(decoded.map(Step::Decoded));
+    /// All fragments of the message; none where the sender refuses it, or where one is not as expected.
+    fn cut(&self, message: &[u8], r: &mut Random, tally: &mut Tally) -> Option<Vec<Vec<u8>>> {
+        let (field, mask) = (self.head.field, self.mask);
+        let mut same = calls::count(Kind::Journey, message.len(), field, tally);
+        let split = answers::sent(message, field, mask, most(mask));
+        for k in 0..split.as_ref().map_or(1, Vec::len) {
+            let expected = split.as_ref().map(|list| &list[k][..]).map_err(|&refusal| refusal);
+            let out = [Lent::new(r, field)];
+            same &= calls::fragment(Kind::Journey, message, Number { field, mask, k }, expected, out, tally);
+        }
+        split.ok().filter(|_| same)
+    }
+
+    /// A frame is pushed, and the message that is done by it decoded. None where something is not as expected.
+    fn hear(&self, frame: &[u8], pair: &mut Pair, r: &mut Random, tally: &mut Tally) -> Option<Option<Vec<u8>>> {
+        let heard = pair.call(Kind::Journey, Call::Push(frame, self.head.field), tally)?;
+        let Heard::Done(length) = heard else { return Some(None) };
+        let message = pair.message(length);
+        let expected = codings::decode(message);
+        let room = expected.as_ref().map_or(0, |(data, _)| data.len()) + r.below(2);
+        let same = codings::decoded(Kind::Journey, message, &expected, vec![Lent::new(r, room)], tally);
+        same.then(|| expected.ok().map(|(data, _)| data))
     }
 }
 
@@ -126,76 +118,4 @@ fn on_air(mut frame: Vec<u8>, fate: Fate) -> Vec<Vec<u8>> {
             vec![frame]
         }
     }
-}
-
-/// The unmodified Rust.
-struct Source(answers::Receiver);
-
-impl Side for Source {
-    fn encode(&self, command: u8, data: &[u8]) -> Result<(Vec<u8>, u8), u8> {
-        answers::encode(command, data)
-    }
-
-    fn fragments(&self, message: &[u8], field: usize, mask: u8) -> Result<Vec<Vec<u8>>, u8> {
-        answers::sent(message, field, mask, most(mask))
-    }
-
-    fn frame(&self, field: usize, data: &[u8], control: xara::Control, marker: u8) -> Result<Vec<u8>, u8> {
-        answers::framed(field, data, control.reply, control.compressed != 0, control.hint, marker)
-    }
-
-    fn push(&mut self, frame: &[u8], field: usize) -> Result<Answer, Heard> {
-        Ok(self.0.push(frame, field))
-    }
-
-    fn decode(&self, message: &[u8]) -> Result<(u8, Vec<u8>), u8> {
-        answers::decode(message)
-    }
-}
-
-/// The exported functions, with a receiver and its store.
-struct Ours(xara::Receiver, Vec<u8>);
-
-impl Side for Ours {
-    fn encode(&self, command: u8, data: &[u8]) -> Result<(Vec<u8>, u8), u8> {
-        let mut out = vec![0; MAX_MESSAGE];
-        let (n, typ) = xara::encode(command, data, &mut out)?;
-        out.truncate(n);
-        Ok((out, typ))
-    }
-
-    fn fragments(&self, message: &[u8], field: usize, mask: u8) -> Result<Vec<Vec<u8>>, u8> {
-        let count = xara::count(message.len(), field)?;
-        (0..count).map(|k| filled(field, |out| xara::fragment(message, field, mask, k, out))).collect()
-    }
-
-    fn frame(&self, field: usize, data: &[u8], control: xara::Control, marker: u8) -> Result<Vec<u8>, u8> {
-        filled(field + 3, |out| xara::frame(field, data, control, marker, out))
-    }
-
-    fn push(&mut self, frame: &[u8], field: usize) -> Result<Answer, Heard> {
-        let (heard, receiver) = self.0.push(&mut self.1, frame, field);
-        self.0 = receiver;
-        match heard {
-            Heard::Dropped => Ok(Answer::Dropped),
-            Heard::More => Ok(Answer::More),
-            Heard::Done(n) => Ok(Answer::Done(self.1[..n].to_vec())),
-            unexpected => Err(unexpected),
-        }
-    }
-
-    fn decode(&self, message: &[u8]) -> Result<(u8, Vec<u8>), u8> {
-        let mut out = vec![0; MOST_DECODED];
-        let (n, command) = xara::decode(message, &mut out)?;
-        out.truncate(n);
-        Ok((command, out))
-    }
-}
-
-/// What a call writes into an output with room for so many bytes.
-fn filled(room: usize, call: impl Fn(&mut [u8]) -> Result<usize, u8>) -> Result<Vec<u8>, u8> {
-    let mut out = vec![0; room];
-    let n = call(&mut out)?;
-    out.truncate(n);
-    Ok(out)
 }

@@ -1,10 +1,10 @@
-//! An output that is lent to our side: a part of a list that is filled with a pattern, so that what is written beside
-//! the part, or behind an answer's end, is seen.
+//! What is lent to our side: an output as a part of a list that is filled with a pattern, so that what is written beside the
+//! part, or after an answer's end, is seen; and an input as a copy, so that a change of it is seen.
 
 use answers::random::Random;
 use std::ops::Range;
 
-/// Bytes before and behind the part that is lent.
+/// Bytes before and after the part that is lent.
 const MARGIN: usize = 16;
 
 pub struct Lent {
@@ -42,5 +42,19 @@ impl Lent {
             bytes[self.part.start..][..v.len()].copy_from_slice(v);
         }
         (answer.map(<[u8]>::len), bytes)
+    }
+}
+
+/// Bytes that a call is lent to read.
+pub struct Input<'a> {
+    /// The bytes as they must stay.
+    pub kept: &'a [u8],
+    /// The bytes that are lent.
+    pub lent: Vec<u8>,
+}
+
+impl<'a> Input<'a> {
+    pub fn new(kept: &'a [u8]) -> Self {
+        Input { kept, lent: kept.to_vec() }
     }
 }

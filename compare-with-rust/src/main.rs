@@ -2,12 +2,17 @@
 
 mod calls;
 mod codings;
+mod expected;
 mod histories;
 mod journeys;
 mod lent;
 mod receiver;
 mod rules;
+mod spoil;
 mod tally;
+mod writing;
+// Other programs take what is not used here.
+#[allow(dead_code)]
 mod xara;
 
 use answers::random::Random;
@@ -17,8 +22,8 @@ use tally::Tally;
 
 const SEED: u64 = 1;
 
-/// Where this variable is set, the sender is expected to refuse as late as the source does: a wrong expectation, by
-/// which it can be seen that a difference is found.
+/// Where this variable is set, each row that is as expected is spoiled afterwards, in one of its parts, and compared
+/// again: by this it can be seen that a difference in any part of any kind of row is found.
 const WRONG: &str = "COMPARE_WRONG";
 
 /// The fields from 0 to 514 in an order that spreads them.
@@ -35,7 +40,9 @@ fn main() -> ExitCode {
     let tally = run(Duration::from_secs(seconds), seed);
     print!("{}", tally.table());
     println!("{} compared, {} differ", tally.compared(), tally.differ());
-    if tally.differ() == 0 { ExitCode::SUCCESS } else { ExitCode::FAILURE }
+    let (spoiled, found) = tally.spoiled().unwrap_or_else(|| (String::new(), true));
+    print!("{spoiled}");
+    if tally.differ() == 0 && found { ExitCode::SUCCESS } else { ExitCode::FAILURE }
 }
 
 fn usage() -> ExitCode {
@@ -46,14 +53,15 @@ fn usage() -> ExitCode {
 fn run(time: Duration, seed: u64) -> Tally {
     let began = Instant::now();
     let mut r = Random::new(seed, "compare");
-    let mut tally = Tally::default();
     let wrong = std::env::var_os(WRONG).is_some();
+    let mut tally = if wrong { Tally::spoiling() } else { Tally::default() };
     calls::all_counts(&mut tally);
     histories::all_stores(&mut r, &mut tally);
     codings::longest(&mut r, &mut tally);
+    codings::written_down(&mut r, &mut tally);
     let mut field = 0;
     while began.elapsed() < time {
-        calls::fragments(field, wrong, &mut r, &mut tally);
+        calls::fragments(field, &mut r, &mut tally);
         calls::frames(field, &mut r, &mut tally);
         calls::every_room(field, &mut r, &mut tally);
         codings::every_room(&mut r, &mut tally);

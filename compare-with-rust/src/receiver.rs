@@ -1,109 +1,128 @@
 //! One receiver of ours with its store, and the source's receiver beside it. Each call goes to both.
 
-use crate::rules::{fragment_length, more, place, tail};
-use crate::tally::{Kind, Tally};
-use crate::xara::{self, Heard};
+use crate::lent::Input;
+use crate::rules::{self, Call};
+use crate::tally::{Kind, Row, Tally};
+use crate::xara::{self, Heard, Pushed};
+use answers::Answer;
 use answers::hex::to_hex;
-use answers::{Answer, FIELDS};
-
-enum Call {
-    Push(usize, Vec<u8>),
-    Join(usize, Vec<u8>),
-    Reset,
-}
 
 pub struct Pair {
     mask: u8,
     source: answers::Receiver,
     ours: xara::Receiver,
     store: Vec<u8>,
+    /// The state as it must be, by document 01's rules; `state` compares ours with the source's own.
+    expected: xara::Receiver,
     /// The store as it must be: every byte that no call may have written is as it was at the start.
-    expected: Vec<u8>,
-    /// All calls since the receivers were new.
-    calls: Vec<Call>,
+    expected_store: Vec<u8>,
+    /// All calls since the receivers were new, as requests to the oracle's line program.
+    calls: Vec<Request>,
+}
+
+enum Request {
+    Push(usize, Vec<u8>),
+    Join(usize, Vec<u8>),
+    Reset,
 }
 
 impl Pair {
     /// Both receivers new, with a store that holds what it holds.
     pub fn new(mask: u8, ours: xara::Receiver, store: Vec<u8>) -> Self {
-        Pair { mask, source: answers::Receiver::new(mask), ours, expected: store.clone(), store, calls: Vec::new() }
+        let source = answers::Receiver::new(mask);
+        Pair { mask, source, ours, expected: ours, expected_store: store.clone(), store, calls: Vec::new() }
     }
 
     pub fn held(&self) -> usize {
         self.ours.held
     }
 
+    /// The first bytes of our store.
+    pub fn message(&self, length: usize) -> &[u8] {
+        &self.store[..length]
+    }
+
     /// Any byte but 0 is an overflow: an overflow is shown to the next call as this one.
     pub fn show_overflow(&mut self, byte: u8) {
-        if self.ours.overflow != 0 && byte != 0 {
-            self.ours.overflow = byte;
+        for receiver in [&mut self.ours, &mut self.expected] {
+            if receiver.overflow != 0 && byte != 0 {
+                receiver.overflow = byte;
+            }
         }
     }
 
-    pub fn push(&mut self, field: usize, frame: Vec<u8>, tally: &mut Tally) {
-        let before = self.ours;
-        let (heard, after) = before.push(&mut self.store, &frame, field);
-        let expected = if FIELDS.contains(&field) {
-            let answer = self.source.push(&frame, field);
-            self.follow(answer, before, &frame, fragment_length(&frame, field))
-        } else {
-            Heard::Refused(8)
-        };
-        self.ours = after;
-        self.calls.push(Call::Push(field, frame));
-        tally.heard(expected);
-        tally.compare(Kind::Push, (expected, &self.expected), (heard, &self.store), || self.told());
+    pub fn push(&mut self, field: usize, frame: &[u8], tally: &mut Tally) {
+        self.call(Kind::Push, Call::Push(frame, field), tally);
     }
 
-    pub fn join(&mut self, n: usize, f: Vec<u8>, tally: &mut Tally) {
-        let before = self.ours;
-        let (heard, after) = before.join(&mut self.store, &f, n);
-        let answer = self.source.join(&f, n);
-        let expected = self.follow(answer, before, &f, n);
-        self.ours = after;
-        self.calls.push(Call::Join(n, f));
-        tally.heard(expected);
-        tally.compare(Kind::Join, (expected, &self.expected), (heard, &self.store), || self.told());
+    pub fn join(&mut self, n: usize, f: &[u8], tally: &mut Tally) {
+        self.call(Kind::Join, Call::Join(f, n), tally);
+    }
+
+    /// A push or a join: what it is expected to answer, where all is so.
+    pub fn call(&mut self, kind: Kind, call: Call, tally: &mut Tally) -> Option<Heard> {
+        let mut input = Input::new(call.bytes());
+        let ours = call.on(self.ours, &mut self.store, &mut input);
+        let expected = self.expect(call);
+        self.ours = ours.receiver;
+        self.calls.push(match call {
+            Call::Push(frame, field) => Request::Push(field, frame.to_vec()),
+            Call::Join(f, n) => Request::Join(n, f.to_vec()),
+        });
+        tally.heard(expected.heard());
+        let row = Row { answer: expected, written: &self.expected_store, read: input.kept };
+        let ours = Row { answer: ours, written: &self.store, read: &input.lent };
+        tally.compare(kind, row, ours, || self.told()).then_some(expected.heard())
+    }
+
+    /// The source's answer, with which the rules must agree, and the state that the rules have. Into the expected store
+    /// go the bytes that the call may write. What the rules refuse does not go to the source.
+    fn expect(&mut self, call: Call) -> Pushed {
+        let (ruled, state) = rules::answer(self.expected, &mut self.expected_store, call);
+        self.expected = state;
+        let answer = match (ruled, call) {
+            (Heard::Refused(_), _) => return Pushed::of(ruled, state),
+            (_, Call::Push(frame, field)) => self.source.push(frame, field),
+            (_, Call::Join(f, n)) => self.source.join(f, n),
+        };
+        let heard = match answer {
+            Answer::Dropped => Heard::Dropped,
+            Answer::More => Heard::More,
+            Answer::Done(message) => {
+                self.expected_store[..message.len()].copy_from_slice(&message);
+                Heard::Done(message.len())
+            }
+        };
+        assert_eq!(heard, ruled, "the source, and document 01's rules, on {call:02X?}");
+        Pushed::of(heard, state)
     }
 
     pub fn reset(&mut self, tally: &mut Tally) {
-        let before = self.ours;
         self.source.reset();
-        self.ours = before.reset();
-        self.calls.push(Call::Reset);
-        let expected = xara::Receiver { held: 0, nfrag: 0, overflow: 0, ..before };
-        tally.compare(Kind::Reset, (expected, &self.expected), (self.ours, &self.store), || self.told());
+        self.ours = self.ours.reset();
+        self.expected = rules::reset(self.expected);
+        self.calls.push(Request::Reset);
+        let expected = Row { answer: self.expected, written: &self.expected_store, read: &[] };
+        let ours = Row { answer: self.ours, written: &self.store, read: &[] };
+        tally.compare(Kind::Reset, expected, ours, || self.told());
     }
 
-    /// The two states, with the bytes held.
+    /// Our state, with the bytes held, against the source's own. An overflow may be any byte but 0 here, since a caller may
+    /// show it so.
     pub fn state(&self, tally: &mut Tally) {
         let source = self.source.state();
+        let overflow = if source.overflow { self.ours.overflow.max(1) } else { 0 };
         let expected = xara::Receiver {
             held: source.held.len(),
             nfrag: source.fragments,
             count: source.check,
             crc_mask: source.mask,
-            overflow: u8::from(source.overflow),
+            overflow,
         };
         let held = self.store.get(..self.ours.held).unwrap_or_default();
-        tally.compare(Kind::State, (expected, &source.held), (self.ours, held), || self.told() + "\nstate a");
-    }
-
-    /// The source's answer as one of ours. Into the expected store go the bytes that the call may write: those of a
-    /// message that is done, else the fragment's tail where it was appended, and the first byte.
-    fn follow(&mut self, answer: Answer, before: xara::Receiver, f: &[u8], n: usize) -> Heard {
-        if let Answer::Done(message) = answer {
-            self.expected[..message.len()].copy_from_slice(&message);
-            return Heard::Done(message.len());
-        }
-        if let Some(base) = place(before, f, n) {
-            let tail = tail(before, f, n);
-            self.expected[base..base + tail.len()].copy_from_slice(tail);
-            if before.held == 0 || !more(f) {
-                self.expected[0] = f[0];
-            }
-        }
-        if answer == Answer::More { Heard::More } else { Heard::Dropped }
+        let expected = Row { answer: expected, written: &source.held, read: &[] };
+        let ours = Row { answer: self.ours, written: held, read: &[] };
+        tally.compare(Kind::State, expected, ours, || self.told() + "\nstate a");
     }
 
     /// All calls as requests to the oracle's line program.
@@ -111,9 +130,9 @@ impl Pair {
         let mut text = format!("new a {:02X}", self.mask);
         for call in &self.calls {
             text += &match call {
-                Call::Push(field, frame) => format!("\npush a {field} {}", to_hex(frame)),
-                Call::Join(n, f) => format!("\njoin a {n} {}", to_hex(f)),
-                Call::Reset => "\nreset a".to_string(),
+                Request::Push(field, frame) => format!("\npush a {field} {}", to_hex(frame)),
+                Request::Join(n, f) => format!("\njoin a {n} {}", to_hex(f)),
+                Request::Reset => "\nreset a".to_string(),
             };
         }
         text

@@ -1,6 +1,7 @@
 //! Document 01's rules of the receiver on any state, also on one that no call leads to: there the source can't be asked.
 
-use crate::xara::{Heard, Receiver};
+use crate::lent::Input;
+use crate::xara::{Heard, Pushed, Receiver};
 use answers::{FIELDS, MASKS, MAX_MESSAGE};
 
 /// The most fragments of a message that is heard.
@@ -15,15 +16,39 @@ pub enum Call<'a> {
     Join(&'a [u8], usize),
 }
 
-/// The answer to a call, and the state and the store behind it.
+impl<'a> Call<'a> {
+    /// The frame or the fragment.
+    pub fn bytes(self) -> &'a [u8] {
+        match self {
+            Call::Push(bytes, _) | Call::Join(bytes, _) => bytes,
+        }
+    }
+
+    /// The call on a receiver of ours, with a copy of its bytes.
+    pub fn on(self, receiver: Receiver, store: &mut [u8], input: &mut Input) -> Pushed {
+        match self {
+            Call::Push(_, field) => receiver.push(store, &mut input.lent[..], field),
+            Call::Join(_, n) => receiver.join(store, &mut input.lent[..], n),
+        }
+    }
+}
+
+/// The answer to a call, with the state and the store after it. A refusal hands back the state that came in, whichever byte
+/// says overflow; in an answer the overflow is 0 or 1.
 pub fn answer(state: Receiver, store: &mut [u8], call: Call) -> (Heard, Receiver) {
     if let Some(refusal) = refusal(state, store.len(), call) {
         return (Heard::Refused(refusal), state);
     }
+    let state = Receiver { overflow: u8::from(state.overflow != 0), ..state };
     match call {
         Call::Push(frame, field) => join(state, store, frame, fragment_length(frame, field)),
         Call::Join(f, n) => join(state, store, f, n),
     }
+}
+
+/// "Reset: nothing held, fragments 0, no overflow; check byte and mask are kept."
+pub fn reset(state: Receiver) -> Receiver {
+    Receiver { held: 0, nfrag: 0, overflow: 0, ..state }
 }
 
 /// The table's order: 17, 9, 8.
@@ -73,7 +98,7 @@ fn finish(state: Receiver, store: &[u8]) -> (Heard, Receiver) {
 
 /// "Fragment length is field where the control byte's bit 0 is set, else the place of the last 14 in the field, else 0."
 /// A frame of another length has no fragment.
-pub fn fragment_length(frame: &[u8], field: usize) -> usize {
+fn fragment_length(frame: &[u8], field: usize) -> usize {
     if frame.len() != field + 3 {
         return 0;
     }
@@ -83,18 +108,18 @@ pub fn fragment_length(frame: &[u8], field: usize) -> usize {
     frame[..field].iter().rposition(|&b| b == 0x14).unwrap_or(0)
 }
 
-pub fn more(f: &[u8]) -> bool {
+fn more(f: &[u8]) -> bool {
     f[0] >= 0x80
 }
 
-/// What of a fragment, the n first bytes of f, goes behind what is held: in the first of several without the check byte.
-pub fn tail(state: Receiver, f: &[u8], n: usize) -> &[u8] {
+/// What of a fragment, the n first bytes of f, goes after what is held: in the first of several without the check byte.
+fn tail(state: Receiver, f: &[u8], n: usize) -> &[u8] {
     let start = if state.held == 0 && more(f) { 2 } else { 1 };
     &f[start.min(n)..n]
 }
 
 /// Where a fragment's tail goes; none where the call changes no store byte.
-pub fn place(state: Receiver, f: &[u8], n: usize) -> Option<usize> {
+fn place(state: Receiver, f: &[u8], n: usize) -> Option<usize> {
     let idle = n == 0 || n > f.len();
     if idle || state.overflow != 0 || state.held == 0 && more(f) && f.len() < 2 {
         return None;

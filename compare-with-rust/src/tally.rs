@@ -1,8 +1,8 @@
 //! Compares what is expected with what our side did, and counts.
 
+use crate::spoil::{Parts, Spoiled};
 use crate::xara::Heard;
 use std::collections::BTreeMap;
-use std::fmt::Debug;
 
 /// What is compared: a call of each kind, and states.
 #[derive(Clone, Copy)]
@@ -23,7 +23,10 @@ pub enum Kind {
     Journey,
 }
 
-const ROWS: [&str; 14] = [
+/// How many kinds there are.
+pub const KINDS: usize = 14;
+
+const ROWS: [&str; KINDS] = [
     "crc",
     "count",
     "fragment",
@@ -40,13 +43,32 @@ const ROWS: [&str; 14] = [
     "journey",
 ];
 
+/// What is compared of a call: its answer in every field, all bytes that it could write, and those that it was lent to read.
+pub struct Row<'a, T> {
+    pub answer: T,
+    pub written: &'a [u8],
+    pub read: &'a [u8],
+}
+
+impl<T> Row<'_, T> {
+    /// The row of a call that is lent no bytes.
+    pub fn of(answer: T) -> Self {
+        Row { answer, written: &[], read: &[] }
+    }
+}
+
+pub fn same<T: PartialEq>(a: &Row<T>, b: &Row<T>) -> bool {
+    a.answer == b.answer && a.written == b.written && a.read == b.read
+}
+
 /// How many differences are written out with their inputs.
 const SHOWN: u64 = 5;
 
 #[derive(Default)]
 pub struct Tally {
-    compared: [u64; ROWS.len()],
-    differ: [u64; ROWS.len()],
+    compared: [u64; KINDS],
+    differ: [u64; KINDS],
+    spoiled: Option<Spoiled>,
     dropped: u64,
     more: u64,
     done: u64,
@@ -61,27 +83,41 @@ pub struct Tally {
 }
 
 impl Tally {
-    /// An answer with the bytes that the call could write. The input is asked for only where they differ.
-    pub fn compare<T: PartialEq + Debug>(
+    /// A tally that spoils each row that is as expected, too, and counts how often that is found.
+    pub fn spoiling() -> Self {
+        Tally { spoiled: Some(Spoiled::default()), ..Tally::default() }
+    }
+
+    /// Whether a row is as expected. The input is asked for only where it is not.
+    pub fn compare<T: Parts>(
         &mut self,
         kind: Kind,
-        expected: (T, &[u8]),
-        ours: (T, &[u8]),
+        expected: Row<T>,
+        ours: Row<T>,
         input: impl FnOnce() -> String,
-    ) {
+    ) -> bool {
         self.compared[kind as usize] += 1;
-        if expected == ours {
-            return;
+        if same(&expected, &ours) {
+            if let Some(spoiled) = &mut self.spoiled {
+                spoiled.row(kind as usize, &expected, &ours);
+            }
+            return true;
         }
         self.differ[kind as usize] += 1;
         if self.differ() <= SHOWN {
             println!("{} differs", ROWS[kind as usize]);
-            println!("expected {:?}\nours     {:?}", expected.0, ours.0);
-            if let Some(place) = first_difference(expected.1, ours.1) {
-                println!("bytes differ from place {place} on");
-            }
+            println!("expected {:?}\nours     {:?}", expected.answer, ours.answer);
+            told_difference("bytes written", expected.written, ours.written);
+            told_difference("bytes lent to be read", expected.read, ours.read);
             println!("{}", input());
         }
+        false
+    }
+
+    /// Where rows are spoiled: a line for each kind, and whether every kind was found.
+    pub fn spoiled(&self) -> Option<(String, bool)> {
+        let (text, found) = self.spoiled.as_ref()?.table(&ROWS);
+        Some((format!("{text}{found} of {KINDS} kinds of rows found where they are spoiled\n"), found == KINDS))
     }
 
     /// Counts what pushes and joins are expected to answer.
@@ -160,6 +196,12 @@ fn told(value: &str, met: &BTreeMap<Result<u8, u8>, u64>) -> String {
     words.collect::<Vec<_>>().join(", ")
 }
 
+fn told_difference(what: &str, expected: &[u8], ours: &[u8]) {
+    if let Some(place) = first_difference(expected, ours) {
+        println!("{what} differ from place {place} on");
+    }
+}
+
 /// The first place where two lists of bytes are not the same.
 fn first_difference(a: &[u8], b: &[u8]) -> Option<usize> {
     let common = a.iter().zip(b).position(|(x, y)| x != y);
@@ -170,32 +212,42 @@ fn first_difference(a: &[u8], b: &[u8]) -> Option<usize> {
 mod tests {
     use super::*;
 
-    fn differ(expected: (u8, &[u8]), ours: (u8, &[u8])) -> u64 {
+    fn differ(expected: Row<u16>, ours: Row<u16>) -> u64 {
         let mut tally = Tally::default();
-        tally.compare(Kind::Crc, expected, ours, String::new);
+        let same = tally.compare(Kind::Crc, expected, ours, String::new);
         assert_eq!(tally.compared(), 1);
+        assert_eq!(tally.differ(), u64::from(!same));
         tally.differ()
+    }
+
+    fn row<'a>(answer: u16, written: &'a [u8], read: &'a [u8]) -> Row<'a, u16> {
+        Row { answer, written, read }
     }
 
     #[test]
     fn equal() {
-        assert_eq!(differ((1, &[2, 3]), (1, &[2, 3])), 0);
+        assert_eq!(differ(row(1, &[2, 3], &[4]), row(1, &[2, 3], &[4])), 0);
     }
 
     #[test]
     fn another_answer() {
-        assert_eq!(differ((1, &[2, 3]), (0, &[2, 3])), 1);
+        assert_eq!(differ(row(1, &[2, 3], &[4]), row(0, &[2, 3], &[4])), 1);
     }
 
     #[test]
     fn another_last_byte() {
-        assert_eq!(differ((1, &[2, 3]), (1, &[2, 4])), 1);
+        assert_eq!(differ(row(1, &[2, 3], &[]), row(1, &[2, 4], &[])), 1);
         assert_eq!(first_difference(&[2, 3], &[2, 4]), Some(1));
     }
 
     #[test]
     fn a_byte_too_many() {
-        assert_eq!(differ((1, &[2]), (1, &[2, 3])), 1);
+        assert_eq!(differ(row(1, &[2], &[]), row(1, &[2, 3], &[])), 1);
         assert_eq!(first_difference(&[2], &[2, 3]), Some(1));
+    }
+
+    #[test]
+    fn an_input_that_was_changed() {
+        assert_eq!(differ(row(1, &[], &[2, 3]), row(1, &[], &[0, 3])), 1);
     }
 }

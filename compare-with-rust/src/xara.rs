@@ -1,11 +1,37 @@
-//! The exported functions. A slice crosses as a pointer and a length, and structs cross by value.
+//! The exported functions and their structs, field for field. A slice crosses as a pointer and a length, and structs
+//! cross by value. A flag is a byte here, so that every byte that an answer may have can be looked at.
 
-#[repr(C)]
+use std::marker::PhantomData;
+
+/// Bytes that a call is lent to read. Where they are borrowed as mutable, a call that writes to them all the same can be
+/// found.
 #[derive(Clone, Copy)]
-struct XaraAnswer {
-    ok: bool,
-    refusal: u8,
-    value: usize,
+pub struct Bytes<'a> {
+    start: *const u8,
+    length: usize,
+    lent: PhantomData<&'a [u8]>,
+}
+
+impl<'a, T: AsRef<[u8]> + ?Sized> From<&'a T> for Bytes<'a> {
+    fn from(bytes: &'a T) -> Self {
+        let bytes = bytes.as_ref();
+        Bytes { start: bytes.as_ptr(), length: bytes.len(), lent: PhantomData }
+    }
+}
+
+impl<'a> From<&'a mut [u8]> for Bytes<'a> {
+    fn from(bytes: &'a mut [u8]) -> Self {
+        Bytes { start: bytes.as_mut_ptr(), length: bytes.len(), lent: PhantomData }
+    }
+}
+
+/// A length or a count.
+#[repr(C)]
+#[derive(Clone, Copy, Debug, PartialEq, Eq)]
+pub struct Answer {
+    pub ok: u8,
+    pub refusal: u8,
+    pub value: usize,
 }
 
 #[repr(C)]
@@ -18,7 +44,7 @@ pub struct Control {
 
 /// A receiver's state. Any overflow but 0 is one.
 #[repr(C)]
-#[derive(Clone, Copy, Debug)]
+#[derive(Clone, Copy, Debug, Default, PartialEq, Eq)]
 pub struct Receiver {
     pub held: usize,
     pub nfrag: usize,
@@ -28,53 +54,53 @@ pub struct Receiver {
 }
 
 #[repr(C)]
-#[derive(Clone, Copy)]
-struct XaraFresh {
-    ok: bool,
-    refusal: u8,
-    receiver: Receiver,
+#[derive(Clone, Copy, Debug, PartialEq, Eq)]
+pub struct Fresh {
+    pub ok: u8,
+    pub refusal: u8,
+    pub receiver: Receiver,
 }
 
 #[repr(C)]
-#[derive(Clone, Copy)]
-struct XaraPushed {
-    kind: u8,
-    refusal: u8,
-    length: usize,
-    receiver: Receiver,
+#[derive(Clone, Copy, Debug, PartialEq, Eq)]
+pub struct Pushed {
+    pub kind: u8,
+    pub refusal: u8,
+    pub length: usize,
+    pub receiver: Receiver,
 }
 
 #[repr(C)]
-#[derive(Clone, Copy)]
-struct XaraEncoded {
-    ok: bool,
-    refusal: u8,
-    aprs_type: u8,
-    length: usize,
+#[derive(Clone, Copy, Debug, PartialEq, Eq)]
+pub struct Encoded {
+    pub ok: u8,
+    pub refusal: u8,
+    pub aprs_type: u8,
+    pub length: usize,
 }
 
 #[repr(C)]
-#[derive(Clone, Copy)]
-struct XaraSummary {
-    ok: bool,
-    refusal: u8,
-    aprs_type: u8,
-    ui: bool,
-    digis: usize,
+#[derive(Clone, Copy, Debug, PartialEq, Eq)]
+pub struct Summary {
+    pub ok: u8,
+    pub refusal: u8,
+    pub aprs_type: u8,
+    pub ui: u8,
+    pub digis: usize,
 }
 
 #[repr(C)]
-#[derive(Clone, Copy)]
-struct XaraDecoded {
-    ok: bool,
-    refusal: u8,
-    command: u8,
-    length: usize,
+#[derive(Clone, Copy, Debug, PartialEq, Eq)]
+pub struct Decoded {
+    pub ok: u8,
+    pub refusal: u8,
+    pub command: u8,
+    pub length: usize,
 }
 
 unsafe extern "C" {
     fn xara_crc16_genibus(data: *const u8, data_len: usize) -> u16;
-    fn xara_count_for_field(total: usize, field: usize) -> XaraAnswer;
+    fn xara_count_for_field(total: usize, field: usize) -> Answer;
     fn xara_fragment(
         message: *const u8,
         message_len: usize,
@@ -83,7 +109,7 @@ unsafe extern "C" {
         k: usize,
         out: *mut u8,
         out_len: usize,
-    ) -> XaraAnswer;
+    ) -> Answer;
     fn xara_build_frame(
         field: usize,
         data: *const u8,
@@ -92,8 +118,8 @@ unsafe extern "C" {
         marker: u8,
         out: *mut u8,
         out_len: usize,
-    ) -> XaraAnswer;
-    fn xara_receiver_new(crc_mask: u8) -> XaraFresh;
+    ) -> Answer;
+    fn xara_receiver_new(crc_mask: u8) -> Fresh;
     fn xara_receiver_push(
         receiver: Receiver,
         store: *mut u8,
@@ -101,7 +127,7 @@ unsafe extern "C" {
         frame: *const u8,
         frame_len: usize,
         field: usize,
-    ) -> XaraPushed;
+    ) -> Pushed;
     fn xara_receiver_join(
         receiver: Receiver,
         store: *mut u8,
@@ -109,11 +135,65 @@ unsafe extern "C" {
         f: *const u8,
         f_len: usize,
         n: usize,
-    ) -> XaraPushed;
+    ) -> Pushed;
     fn xara_receiver_reset(receiver: Receiver) -> Receiver;
-    fn xara_encode(command: u8, data: *const u8, data_len: usize, out: *mut u8, out_len: usize) -> XaraEncoded;
-    fn xara_summary(command: u8, data: *const u8, data_len: usize) -> XaraSummary;
-    fn xara_decode(message: *const u8, message_len: usize, out: *mut u8, out_len: usize) -> XaraDecoded;
+    fn xara_encode(command: u8, data: *const u8, data_len: usize, out: *mut u8, out_len: usize) -> Encoded;
+    fn xara_summary(command: u8, data: *const u8, data_len: usize) -> Summary;
+    fn xara_decode(message: *const u8, message_len: usize, out: *mut u8, out_len: usize) -> Decoded;
+}
+
+pub fn crc<'a>(data: impl Into<Bytes<'a>>) -> u16 {
+    let data = data.into();
+    unsafe { xara_crc16_genibus(data.start, data.length) }
+}
+
+pub fn count(total: usize, field: usize) -> Answer {
+    unsafe { xara_count_for_field(total, field) }
+}
+
+pub fn fragment<'a>(message: impl Into<Bytes<'a>>, field: usize, mask: u8, k: usize, out: &mut [u8]) -> Answer {
+    let message = message.into();
+    unsafe { xara_fragment(message.start, message.length, field, mask, k, out.as_mut_ptr(), out.len()) }
+}
+
+pub fn frame<'a>(field: usize, data: impl Into<Bytes<'a>>, control: Control, marker: u8, out: &mut [u8]) -> Answer {
+    let data = data.into();
+    unsafe { xara_build_frame(field, data.start, data.length, control, marker, out.as_mut_ptr(), out.len()) }
+}
+
+pub fn encode<'a>(command: u8, data: impl Into<Bytes<'a>>, out: &mut [u8]) -> Encoded {
+    let data = data.into();
+    unsafe { xara_encode(command, data.start, data.length, out.as_mut_ptr(), out.len()) }
+}
+
+pub fn summary<'a>(command: u8, data: impl Into<Bytes<'a>>) -> Summary {
+    let data = data.into();
+    unsafe { xara_summary(command, data.start, data.length) }
+}
+
+pub fn decode<'a>(message: impl Into<Bytes<'a>>, out: &mut [u8]) -> Decoded {
+    let message = message.into();
+    unsafe { xara_decode(message.start, message.length, out.as_mut_ptr(), out.len()) }
+}
+
+impl Receiver {
+    pub fn fresh(mask: u8) -> Fresh {
+        unsafe { xara_receiver_new(mask) }
+    }
+
+    pub fn push<'a>(self, store: &mut [u8], frame: impl Into<Bytes<'a>>, field: usize) -> Pushed {
+        let frame = frame.into();
+        unsafe { xara_receiver_push(self, store.as_mut_ptr(), store.len(), frame.start, frame.length, field) }
+    }
+
+    pub fn join<'a>(self, store: &mut [u8], f: impl Into<Bytes<'a>>, n: usize) -> Pushed {
+        let f = f.into();
+        unsafe { xara_receiver_join(self, store.as_mut_ptr(), store.len(), f.start, f.length, n) }
+    }
+
+    pub fn reset(self) -> Self {
+        unsafe { xara_receiver_reset(self) }
+    }
 }
 
 /// What a push or a join answers; `Unknown` is no answer of document 01.
@@ -126,82 +206,45 @@ pub enum Heard {
     Unknown(u8),
 }
 
-impl From<XaraAnswer> for Result<usize, u8> {
-    fn from(a: XaraAnswer) -> Self {
-        if a.ok { Ok(a.value) } else { Err(a.refusal) }
+/// What an answer says: its value, or its refusal.
+impl Answer {
+    pub fn told(self) -> Result<usize, u8> {
+        told(self.ok, self.refusal, self.value)
     }
 }
 
-impl From<XaraPushed> for (Heard, Receiver) {
-    fn from(p: XaraPushed) -> Self {
-        let heard = match p.kind {
-            0 => Heard::Refused(p.refusal),
+impl Fresh {
+    pub fn told(self) -> Result<Receiver, u8> {
+        told(self.ok, self.refusal, self.receiver)
+    }
+}
+
+impl Encoded {
+    /// The message's length and the type.
+    pub fn told(self) -> Result<(usize, u8), u8> {
+        told(self.ok, self.refusal, (self.length, self.aprs_type))
+    }
+}
+
+impl Decoded {
+    /// The data's length and the command.
+    pub fn told(self) -> Result<(usize, u8), u8> {
+        told(self.ok, self.refusal, (self.length, self.command))
+    }
+}
+
+impl Pushed {
+    pub fn heard(self) -> Heard {
+        match self.kind {
+            0 => Heard::Refused(self.refusal),
             1 => Heard::Dropped,
             2 => Heard::More,
-            3 => Heard::Done(p.length),
+            3 => Heard::Done(self.length),
             kind => Heard::Unknown(kind),
-        };
-        (heard, p.receiver)
+        }
     }
 }
 
-pub fn crc(data: &[u8]) -> u16 {
-    unsafe { xara_crc16_genibus(data.as_ptr(), data.len()) }
-}
-
-pub fn count(total: usize, field: usize) -> Result<usize, u8> {
-    unsafe { xara_count_for_field(total, field) }.into()
-}
-
-pub fn fragment(message: &[u8], field: usize, mask: u8, k: usize, out: &mut [u8]) -> Result<usize, u8> {
-    unsafe { xara_fragment(message.as_ptr(), message.len(), field, mask, k, out.as_mut_ptr(), out.len()) }.into()
-}
-
-pub fn frame(field: usize, data: &[u8], control: Control, marker: u8, out: &mut [u8]) -> Result<usize, u8> {
-    unsafe { xara_build_frame(field, data.as_ptr(), data.len(), control, marker, out.as_mut_ptr(), out.len()) }.into()
-}
-
-/// The message's length and the type.
-pub fn encode(command: u8, data: &[u8], out: &mut [u8]) -> Result<(usize, u8), u8> {
-    let a = unsafe { xara_encode(command, data.as_ptr(), data.len(), out.as_mut_ptr(), out.len()) };
-    if a.ok { Ok((a.length, a.aprs_type)) } else { Err(a.refusal) }
-}
-
-/// The type, the number of digipeaters, and whether control is 03.
-pub fn summary(command: u8, data: &[u8]) -> Result<(u8, usize, bool), u8> {
-    let a = unsafe { xara_summary(command, data.as_ptr(), data.len()) };
-    if a.ok { Ok((a.aprs_type, a.digis, a.ui)) } else { Err(a.refusal) }
-}
-
-/// The data's length and the command.
-pub fn decode(message: &[u8], out: &mut [u8]) -> Result<(usize, u8), u8> {
-    let a = unsafe { xara_decode(message.as_ptr(), message.len(), out.as_mut_ptr(), out.len()) };
-    if a.ok { Ok((a.length, a.command)) } else { Err(a.refusal) }
-}
-
-impl Receiver {
-    pub fn new(mask: u8) -> Result<Self, u8> {
-        let fresh = unsafe { xara_receiver_new(mask) };
-        if fresh.ok { Ok(fresh.receiver) } else { Err(fresh.refusal) }
-    }
-
-    pub fn push(self, store: &mut [u8], frame: &[u8], field: usize) -> (Heard, Self) {
-        unsafe { xara_receiver_push(self, store.as_mut_ptr(), store.len(), frame.as_ptr(), frame.len(), field) }.into()
-    }
-
-    pub fn join(self, store: &mut [u8], f: &[u8], n: usize) -> (Heard, Self) {
-        unsafe { xara_receiver_join(self, store.as_mut_ptr(), store.len(), f.as_ptr(), f.len(), n) }.into()
-    }
-
-    pub fn reset(self) -> Self {
-        unsafe { xara_receiver_reset(self) }
-    }
-}
-
-/// The state counts as equal whichever byte but 0 stands for an overflow.
-impl PartialEq for Receiver {
-    fn eq(&self, other: &Self) -> bool {
-        let fields = |r: &Self| (r.held, r.nfrag, r.count, r.crc_mask, r.overflow != 0);
-        fields(self) == fields(other)
-    }
+fn told<T>(ok: u8, refusal: u8, value: T) -> Result<T, u8> {
+    if ok != 0 { Ok(value) } else { Err(refusal) }
 }

@@ -24,7 +24,7 @@ pub struct Control {
 
 /// The frame of a fragment, in a lent output: field + 3 bytes.
 ///
-/// The marker stands behind a fragment that is shorter than the field. Refuses with [`Refusal::Field`], [`Refusal::Fragment`],
+/// The marker stands after a fragment that is shorter than the field. Refuses with [`Refusal::Field`], [`Refusal::Fragment`],
 /// [`Refusal::Marker`], [`Refusal::Control`], [`Refusal::Output`], in this order.
 ///
 /// ```

@@ -28,7 +28,49 @@
 //! What every call keeps to:
 //! - It ends on every input with an answer or a [`Refusal`], and never panics on an input.
 //! - Where it refuses, no lent byte and nothing in a receiver is changed.
-//! - Where it answers, the bytes of the answer are the first of the lent output, and all behind them are as they were.
+//! - Where it answers, the bytes of the answer are the first of the lent output, and all after them are as they were.
+//!
+//! # What is promised, and what the air can still do
+//!
+//! What is promised, with a proof, about a message that [`fragments`] accepted: the receiver answers [`Heard::More`] to each of
+//! its frames but the last, and [`Heard::Done`] with exactly the message to the last. It is so if
+//! - the receiver has the sender's mask;
+//! - the receiver is new, or its last call was an ending: a reset, or a push or join of a fragment that is not empty and whose
+//!   first byte is below 0x80;
+//! - the frames of the message arrive in order, undamaged and complete, each once;
+//! - only idle calls stand between them: calls that are refused, frames of another length than field + 3, and frames or
+//!   fragments of no bytes.
+//!
+//! What the air can still do, since the format leaves no room to find it out:
+//! - A frame that is lost may go unnoticed. The first of several fragments carries four check bits of the whole message under
+//!   [`Mask::Hf`], and five under [`Mask::Fm`]. They find 15 of 16 and 31 of 32 faults. Of 4,000 messages that were sent with one
+//!   middle frame lost, 225 were still answered with [`Heard::Done`] under the first mask and 127 under the second, each with other
+//!   bytes than were sent.
+//! - A message of one fragment carries no check bits, and neither does the last of several fragments. Heard alone, by a receiver
+//!   that holds nothing and is not in overflow, it is always answered with [`Heard::Done`].
+//! - A damaged frame is taken for what it says: [`Reassembler::push`] does not look at the CRC at the frame's end.
+//!
+//! What a gateway does about it: it checks a frame's CRC before it pushes the frame, and resets the receiver when the channel was
+//! silent, so that the start of a message that was broken off is not joined to the next message.
+//!
+//! ```
+//! use xara::{Heard, Mask, Reassembler};
+//!
+//! /// Whether the last two bytes of a frame are the CRC of all bytes before them.
+//! fn undamaged(frame: &[u8]) -> bool {
+//!     frame.split_last_chunk().is_some_and(|(bytes, crc)| xara::crc16_genibus(bytes).to_be_bytes() == *crc)
+//! }
+//!
+//! let mut receiver = Reassembler::new(Mask::Hf);
+//! let mut frame = [0x40, 0x00, 0x10, 0x40, 0x14, 0x00, 0x52, 0x42];
+//! assert!(undamaged(&frame));
+//! frame[2] ^= 0x01;
+//! assert!(!undamaged(&frame));
+//! assert!(matches!(receiver.push(&frame, 5)?, Heard::Done(_)));
+//! # Ok::<(), xara::Refusal>(())
+//! ```
+//!
+//! # Buffers
 //!
 //! [`Encoder`], [`Decoder`] and [`Reassembler`] own buffers that are large enough for every answer. The functions [`encode`],
 //! [`decode`], [`fragment`], [`build_frame`] and the calls of [`State`] write to buffers that are lent, and allocate nothing.

@@ -1,5 +1,6 @@
 //! The exported functions as they are: a slice crosses as a pointer and a length, and structs cross by value. The only module
-//! with unsafe code: each call lends whole slices, which Rust's borrows keep apart and alive.
+//! with unsafe code: each call lends whole slices, which Rust's borrows keep apart and alive. A `bool` of C is a byte here: no byte
+//! that an answer may have is undefined then.
 #![allow(unsafe_code)]
 
 #[repr(C)]

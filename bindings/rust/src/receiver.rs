@@ -33,7 +33,8 @@ impl<T> Heard<T> {
 /// A receiver's state, for those who keep the store themselves. It goes with one store: lend the same one to each call, and write
 /// to neither between calls. [`Reassembler`] does so.
 ///
-/// The fields may be set to anything. What can be no state is refused with [`Refusal::State`] or [`Refusal::Mask`].
+/// The fields may be set to anything. What can be no state is refused with [`Refusal::State`] or [`Refusal::Mask`], and is
+/// then as it was in every field.
 ///
 /// ```
 /// use xara::{Heard, Mask, RX_BUFFER, State};
@@ -48,9 +49,9 @@ impl<T> Heard<T> {
 pub struct State {
     /// How many bytes of the store are held, up to [`RX_BUFFER`].
     pub held: usize,
-    /// Fragments, up to [`RX_MAX_FRAGMENTS`].
+    /// Fragments of the message that is held, up to [`RX_MAX_FRAGMENTS`]; where none is held, 0 or those of the last message.
     pub nfrag: usize,
-    /// The check byte.
+    /// The check byte of the message that is held, or of an earlier one; 0 in a new receiver, kept by a reset.
     pub count: u8,
     /// The mask's byte.
     pub crc_mask: u8,
@@ -64,7 +65,8 @@ impl State {
         State { held: 0, nfrag: 0, count: 0, crc_mask: mask.byte(), overflow: false }
     }
 
-    /// A frame that was heard, of field + 3 bytes; one of another length is dropped.
+    /// A frame that was heard, of field + 3 bytes; one of another length is dropped. The CRC at its end is not looked at: check it
+    /// before the call.
     ///
     /// Where the answer is done, the message is the first so many bytes of the store. Refuses with [`Refusal::State`],
     /// [`Refusal::Mask`], [`Refusal::Field`], in this order.
@@ -147,8 +149,8 @@ impl Reassembler {
         Ok(Reassembler { state, store: vec![0; RX_BUFFER].into() })
     }
 
-    /// A frame that was heard, of field + 3 bytes; one of another length is dropped. A message that is done may be read until
-    /// the next call.
+    /// A frame that was heard, of field + 3 bytes; one of another length is dropped. The CRC at its end is not looked at: check it
+    /// before the call. A message that is done may be read until the next call.
     ///
     /// Refuses with [`Refusal::Field`].
     pub fn push(&mut self, frame: &[u8], field: usize) -> Result<Heard<&[u8]>, Refusal> {
@@ -164,7 +166,7 @@ impl Reassembler {
         Ok(self.handed_out(heard))
     }
 
-    /// Nothing held, no fragments, no overflow: the next fragment starts a message.
+    /// Nothing held, no fragments, no overflow: the next fragment starts a message. Call it when the channel was silent.
     pub fn reset(&mut self) {
         self.state.reset();
     }

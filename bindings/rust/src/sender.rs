@@ -130,7 +130,7 @@ impl<'a> Fragments<'a> {
 
     /// The frames of the fragments that are left.
     ///
-    /// The marker stands behind a fragment that is shorter than the field, and may be any byte but
+    /// The marker stands after a fragment that is shorter than the field, and may be any byte but
     /// [`TERMINATOR`](crate::TERMINATOR). Refuses with [`Refusal::Marker`], [`Refusal::Control`], in this order.
     pub fn frames(self, control: Control, marker: u8) -> Result<Frames<'a>, Refusal> {
         Frames::new(self, control, marker)

@@ -105,7 +105,7 @@ fn the_frames_are_exact() {
     assert_eq!(frames.get(13), None);
 }
 
-/// A sender's marker and a zero stand behind a last fragment that is shorter than its field.
+/// A sender's marker and a zero stand after a last fragment that is shorter than its field.
 #[test]
 fn a_shorter_fragment_is_filled() {
     let mut out = [0xA5; 8];

@@ -89,7 +89,7 @@ fn decode_the_longest() {
     assert_eq!(xara::Decoder::new().decode(&message).map(|(_, data)| data.len()), Ok(xara::MAX_DECODED));
 }
 
-/// A third party's message whose text is the longest word of the dictionary again and again, behind calls that take 6 bits each,
+/// A third party's message whose text is the longest word of the dictionary again and again, after calls that take 6 bits each,
 /// but for one of 9 bits, WIDE2-11: with it a single bit is left over.
 fn longest() -> Vec<u8> {
     let (call, wide) = ("101111", "100101111");

@@ -108,21 +108,22 @@ fn address(call: &str, heard: bool, last: bool) -> Vec<u8> {
 /// Coded, cut into fragments, framed, pushed, and decoded again.
 fn journey(frame: &[u8]) -> Result<Vec<u8>, u8> {
     let (mut message, mut store, mut data) = ([0; 5000], [0; 5000], vec![0; 45_764]);
-    let (n, _) = xara::encode(AX25, frame, &mut message)?;
+    let (n, _) = xara::encode(AX25, frame, &mut message).told()?;
     let message = &message[..n];
-    let mut receiver = Receiver::new(MASK)?;
+    let mut receiver = Receiver::fresh(MASK).told()?;
     let mut done = 0;
-    for k in 0..xara::count(message.len(), FIELD)? {
+    for k in 0..xara::count(message.len(), FIELD).told()? {
         let (mut fragment, mut sent) = ([0; FIELD], [0; FIELD + 3]);
-        let n = xara::fragment(message, FIELD, MASK, k, &mut fragment)?;
-        let n = xara::frame(FIELD, &fragment[..n], Control { reply: 0, compressed: 0, hint: 0 }, 0xFF, &mut sent)?;
-        let (heard, next) = receiver.push(&mut store, &sent[..n], FIELD);
-        receiver = next;
-        if let Heard::Done(length) = heard {
+        let n = xara::fragment(message, FIELD, MASK, k, &mut fragment).told()?;
+        let control = Control { reply: 0, compressed: 0, hint: 0 };
+        let n = xara::frame(FIELD, &fragment[..n], control, 0xFF, &mut sent).told()?;
+        let pushed = receiver.push(&mut store, &sent[..n], FIELD);
+        receiver = pushed.receiver;
+        if let Heard::Done(length) = pushed.heard() {
             done = length;
         }
     }
-    let (n, _) = xara::decode(&store[..done], &mut data)?;
+    let (n, _) = xara::decode(&store[..done], &mut data).told()?;
     data.truncate(n);
     Ok(data)
 }

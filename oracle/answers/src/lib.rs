@@ -7,6 +7,7 @@ pub mod hex;
 pub mod messages;
 pub mod random;
 mod receiver;
+pub mod white;
 
 pub use receiver::{Answer, Receiver, State};
 

@@ -22,8 +22,9 @@ fn every_other_mask_is_refused() {
         let a = raw::xara_fragment(b"A", 5, crc_mask, 0, &mut out);
         assert_eq!((a.ok, a.refusal, a.value), (0, 9, 0));
         let a = raw::xara_receiver_new(crc_mask);
-        assert_eq!((a.ok, a.refusal), (0, 9));
-        let state = XaraReceiver { held: 3, nfrag: 1, count: 2, crc_mask, overflow: 0 };
+        let none = XaraReceiver { held: 0, nfrag: 0, count: 0, crc_mask: 0, overflow: 0 };
+        assert_eq!((a.ok, a.refusal, a.receiver), (0, 9, none));
+        let state = XaraReceiver { held: 3, nfrag: 1, count: 2, crc_mask, overflow: 7 };
         let a = raw::xara_receiver_join(state, &mut store, b"A", 1);
         assert_eq!((a.kind, a.refusal, a.length, a.receiver), (0, 9, 0, state));
         let a = raw::xara_receiver_push(state, &mut store, b"A", 1);
@@ -47,7 +48,7 @@ fn every_byte_is_a_flag_of_control() {
     for compressed in 0..=255 {
         let mut out = [0; 8];
         let a = raw::xara_build_frame(5, b"ABCDE", XaraControl { reply: 2, compressed, hint: 5 }, 0, &mut out);
-        assert_eq!((a.ok, a.value), (1, 8));
+        assert_eq!((a.ok, a.refusal, a.value), (1, 0, 8));
         assert_eq!(out[5], 0x80 | if compressed == 0 { 0 } else { 0x20 } | 5 << 2 | 1);
     }
 }
@@ -60,13 +61,30 @@ fn every_byte_is_an_overflow() {
         for (held, nfrag) in [(0, 0), (0, 255), (1, 0), (4999, 255), (5000, 1)] {
             let state = XaraReceiver { held, nfrag, count: 9, crc_mask: 0xF8, overflow };
             let a = raw::xara_receiver_join(state, &mut store, &[0x80, 1, 2], 3);
-            assert_eq!((a.kind, a.receiver.overflow != 0), (1, true));
-            assert_eq!(XaraReceiver { overflow, ..a.receiver }, state);
+            assert_eq!((a.kind, a.refusal, a.length, a.receiver), (1, 0, 0, XaraReceiver { overflow: 1, ..state }));
             let a = raw::xara_receiver_join(state, &mut store, &[0x7F, 1, 2], 3);
-            assert_eq!((a.kind, a.receiver), (1, XaraReceiver { overflow: 0, ..state }));
+            assert_eq!((a.kind, a.refusal, a.length, a.receiver), (1, 0, 0, XaraReceiver { overflow: 0, ..state }));
             let reset = raw::xara_receiver_reset(state);
             assert_eq!(reset, XaraReceiver { held: 0, nfrag: 0, overflow: 0, ..state });
         }
+    }
+    assert_eq!(store, [0xA5; RX_BUFFER]);
+}
+
+/// Refused with 17, 9 or 8, a state comes back as it was, whichever byte says overflow.
+#[test]
+fn every_overflow_comes_back_from_a_refusal() {
+    let mut store = [0xA5; RX_BUFFER];
+    for overflow in 0..=255 {
+        let state = XaraReceiver { held: 3, nfrag: 2, count: 9, crc_mask: 0xF0, overflow };
+        let a = raw::xara_receiver_push(state, &mut store, b"AAAAAAAA", 2);
+        assert_eq!((a.kind, a.refusal, a.length, a.receiver), (0, 8, 0, state));
+        let state = XaraReceiver { crc_mask: 1, ..state };
+        let a = raw::xara_receiver_push(state, &mut store, b"AAAAAAAA", 5);
+        assert_eq!((a.kind, a.refusal, a.length, a.receiver), (0, 9, 0, state));
+        let state = XaraReceiver { held: 5001, ..state };
+        let a = raw::xara_receiver_join(state, &mut store, b"AAAAAAAA", 5);
+        assert_eq!((a.kind, a.refusal, a.length, a.receiver), (0, 17, 0, state));
     }
     assert_eq!(store, [0xA5; RX_BUFFER]);
 }

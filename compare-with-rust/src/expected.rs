@@ -1,0 +1,65 @@
+//! The structs that are to be expected of a value or a refusal: 0 in every field that has no meaning then.
+
+use crate::xara::{Answer, Decoded, Encoded, Fresh, Heard, Pushed, Receiver, Summary};
+
+impl Answer {
+    pub fn of(expected: Result<usize, u8>) -> Self {
+        let (ok, refusal) = flags(&expected);
+        Answer { ok, refusal, value: expected.unwrap_or_default() }
+    }
+}
+
+impl Fresh {
+    pub fn of(expected: Result<Receiver, u8>) -> Self {
+        let (ok, refusal) = flags(&expected);
+        Fresh { ok, refusal, receiver: expected.unwrap_or_default() }
+    }
+}
+
+impl Pushed {
+    pub fn of(heard: Heard, receiver: Receiver) -> Self {
+        let (kind, refusal, length) = match heard {
+            Heard::Refused(refusal) => (0, refusal, 0),
+            Heard::Dropped => (1, 0, 0),
+            Heard::More => (2, 0, 0),
+            Heard::Done(length) => (3, 0, length),
+            Heard::Unknown(kind) => (kind, 0, 0),
+        };
+        Pushed { kind, refusal, length, receiver }
+    }
+}
+
+impl Encoded {
+    /// Of the message's length and the type.
+    pub fn of(expected: Result<(usize, u8), u8>) -> Self {
+        let (ok, refusal) = flags(&expected);
+        let (length, aprs_type) = expected.unwrap_or_default();
+        Encoded { ok, refusal, aprs_type, length }
+    }
+}
+
+impl Summary {
+    /// Of the type, the number of digipeaters, and whether control is 03.
+    pub fn of(expected: Result<(u8, usize, bool), u8>) -> Self {
+        let (ok, refusal) = flags(&expected);
+        let (aprs_type, digis, ui) = expected.unwrap_or_default();
+        Summary { ok, refusal, aprs_type, ui: u8::from(ui), digis }
+    }
+}
+
+impl Decoded {
+    /// Of the data's length and the command.
+    pub fn of(expected: Result<(usize, u8), u8>) -> Self {
+        let (ok, refusal) = flags(&expected);
+        let (length, command) = expected.unwrap_or_default();
+        Decoded { ok, refusal, command, length }
+    }
+}
+
+/// `ok` and `refusal`.
+fn flags<T>(expected: &Result<T, u8>) -> (u8, u8) {
+    match expected {
+        Ok(_) => (1, 0),
+        Err(refusal) => (0, *refusal),
+    }
+}
