@@ -36,7 +36,7 @@
  * What the air can still do, since the format leaves no room to find it out:
  * - A frame that is lost may go unnoticed. The first of several fragments carries four check bits of the whole message under mask
  *   F0, and five under F8. They find 15 of 16 and 31 of 32 faults. Of 4,000 messages that were sent with one middle frame lost,
- *   225 were still answered with XARA_DONE under F0 and 127 under F8, each with other bytes than were sent.
+ *   232 were still answered with XARA_DONE under F0 and 122 under F8, each with other bytes than were sent.
  * - A message of one fragment carries no check bits, and neither does the last of several fragments. Heard alone, by a receiver
  *   that holds nothing and is not in overflow, it is always answered with XARA_DONE.
  * - A damaged frame is taken for what it says: xara_receiver_push does not look at the CRC at the frame's end.

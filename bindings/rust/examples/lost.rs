@@ -1,0 +1,71 @@
+//! What comes of messages on the air when a frame is lost: 4,000 messages of random bytes under each mask, every frame but one
+//! pushed to a new receiver. Nothing of this is a fault of the receiver: the format has four or five check bits for a message.
+use xara::{Control, Encoder, Frame, Heard, Mask, Reassembler, Refusal};
+
+const MESSAGES: usize = 4_000;
+const FIELD: usize = 12;
+
+/// Xorshift of 64 bits, the same numbers in each run.
+struct Numbers(u64);
+
+impl Numbers {
+    fn next(&mut self, below: usize) -> usize {
+        self.0 ^= self.0 << 13;
+        self.0 ^= self.0 >> 7;
+        self.0 ^= self.0 << 17;
+        (self.0 >> 32) as usize % below
+    }
+}
+
+/// How many of the messages were still handed out, by what was lost.
+#[derive(Default)]
+struct Counts {
+    middle: usize,
+    all_but_last: usize,
+}
+
+/// The frames of a message of 30 to 79 random bytes: three at least, at most eight.
+fn frames(numbers: &mut Numbers, mask: Mask) -> Result<Vec<Frame>, Refusal> {
+    let data: Vec<u8> = (0..30 + numbers.next(50)).map(|_| numbers.next(256) as u8).collect();
+    let mut encoder = Encoder::new();
+    let message = encoder.encode(xara::Command::Generic, &data)?;
+    Ok(xara::fragments(message.bytes, FIELD, mask)?.frames(Control::default(), 0x01)?.collect())
+}
+
+/// Whether the last of these frames is answered with Done by a new receiver.
+fn done(frames: &[&Frame], mask: Mask) -> Result<bool, Refusal> {
+    let mut receiver = Reassembler::new(mask);
+    let mut done = false;
+    for frame in frames {
+        done = matches!(receiver.push(frame, FIELD)?, Heard::Done(_));
+    }
+    Ok(done)
+}
+
+fn lost(mask: Mask) -> Result<Counts, Refusal> {
+    let mut numbers = Numbers(0x9E37_79B9_7F4A_7C15);
+    let mut counts = Counts::default();
+    for _ in 0..MESSAGES {
+        let all = frames(&mut numbers, mask)?;
+        let gone = 1 + numbers.next(all.len() - 2);
+        let rest: Vec<&Frame> = all.iter().enumerate().filter(|(i, _)| *i != gone).map(|(_, f)| f).collect();
+        counts.middle += usize::from(done(&rest, mask)?);
+        counts.all_but_last += usize::from(done(&rest[rest.len() - 1..], mask)?);
+    }
+    Ok(counts)
+}
+
+fn main() -> Result<(), Refusal> {
+    for (name, mask) in [("F0", Mask::Hf), ("F8", Mask::Fm)] {
+        let counts = lost(mask)?;
+        println!(
+            "{name}: of {MESSAGES} messages with one middle frame lost {} are Done, with other bytes",
+            counts.middle
+        );
+        println!(
+            "{name}: of {MESSAGES} messages of which only the last frame is heard {} are Done",
+            counts.all_but_last
+        );
+    }
+    Ok(())
+}
