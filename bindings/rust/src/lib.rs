@@ -44,7 +44,7 @@
 //! What the air can still do, since the format leaves no room to find it out:
 //! - A frame that is lost may go unnoticed. The first of several fragments carries four check bits of the whole message under
 //!   [`Mask::Hf`], and five under [`Mask::Fm`]. They find 15 of 16 and 31 of 32 faults. Of 4,000 messages that were sent with one
-//!   middle frame lost, 225 were still answered with [`Heard::Done`] under the first mask and 127 under the second, each with other
+//!   middle frame lost, 232 were still answered with [`Heard::Done`] under the first mask and 122 under the second, each with other
 //!   bytes than were sent.
 //! - A message of one fragment carries no check bits, and neither does the last of several fragments. Heard alone, by a receiver
 //!   that holds nothing and is not in overflow, it is always answered with [`Heard::Done`].
