@@ -87,7 +87,7 @@ grown r n = record { held = baseOf (r .held) + n; nfrag = r .nfrag + 1; count = 
 -- append and count. More: answer More."
 unfoldable pub growOf : Reassembler → List ℕ → ℕ → List ℕ → After
 growOf r store first tail =
-    pick (leb 255 (r .nfrag) || ltb (5000 - baseOf (r .held)) (length tail))
+    pick (leb 255 (r .nfrag) || ltb 5000 (baseOf (r .held) + length tail))
     (answered Dropped (emptied r (leb 0x80 first)) store)
     (pick (leb 0x80 first)
     (answered More (grown r (length tail)) (sets (headed (r .held) store first) (baseOf (r .held)) tail))

@@ -22,7 +22,7 @@ sub-if2 : tie.Need-sub-if2
 sub-if2 c = base-fits (c .before)
 
 returns-2 : tie.Need-returns-2
-returns-2 c = sym (grow-long _ _ _ _ (c .before .if1 .left) (rw (c .before .before .base-of .ensures) at (c .if2 .taken)))
+returns-2 c = sym (grow-long _ _ _ _ (c .before .if1 .left) (rw (c .before .before .base-of .ensures) at (base-fits (c .before .before))) (rw (c .before .before .base-of .ensures) at (c .if2 .taken)))
 
 head-requires : tie.Need-head-requires
 head-requires c κs = search needs
@@ -45,7 +45,7 @@ returns-3 c =
     let e2 = h .before .before in
     let a = e2 .before .before in
     rw (p .copy .ensures .stored, p .copy .ensures .next-is, h .head .ensures, a .base-of .ensures)
-    (sym (grow-more _ _ _ _ (e2 .before .if1 .left) (rw (a .base-of .ensures) at (e2 .if2 .left)) (c .if3 .taken)))
+    (sym (grow-more _ _ _ _ (e2 .before .if1 .left) (rw (a .base-of .ensures) at (base-fits a)) (rw (a .base-of .ensures) at (e2 .if2 .left)) (c .if3 .taken)))
 
 finish-requires : tie.Need-finish-requires
 finish-requires c κs =
@@ -68,7 +68,7 @@ returns-4 c =
     let a = e2 .before .before in
     f .finish .ensures
     ∙ rw (p .copy .ensures .stored, p .copy .ensures .next-is, h .head .ensures, a .base-of .ensures)
-    (sym (grow-last _ _ _ _ (e2 .before .if1 .left) (rw (a .base-of .ensures) at (e2 .if2 .left)) (f .before .before .if3 .left)))
+    (sym (grow-last _ _ _ _ (e2 .before .if1 .left) (rw (a .base-of .ensures) at (base-fits a)) (rw (a .base-of .ensures) at (e2 .if2 .left)) (f .before .before .if3 .left)))
 
 pub grow-spec : {M : Type 1} → statement M
 grow-spec =
