@@ -6,6 +6,7 @@ pub mod Forget
 pub mod FrameHeard
 pub mod Handed
 pub mod Idle
+pub mod Instances
 pub mod Lines
 pub mod Messages
 pub mod Sim
