@@ -76,12 +76,12 @@ module _ (m : ℕ) (x : Sending) (s : Sendable (x .message) (x .field) m) where
 -- ---- what a call leaves in a lent output
 
 -- bytes that are written to the front of an output with room
-front : (v out : List ℕ) → length v ≤ length out → sets out 0 v ≡ v ++ drop (length v) out
-front v out h = sets-eq v out 0 (omega arith) ∙ ap (λ (n : ℕ). v ++ drop n out) (zero-add (length v))
+at-front : (v out : List ℕ) → length v ≤ length out → sets out 0 v ≡ v ++ drop (length v) out
+at-front v out h = sets-eq v out 0 (omega arith) ∙ ap (λ (n : ℕ). v ++ drop n out) (zero-add (length v))
 
 module _ {o : Outcome (List ℕ)} {v : List ℕ} (e : o ≡ answer v) (out : List ℕ) where
   sent-fits : length v ≤ length out → into o out ≡ left (answer (length v)) (v ++ drop (length v) out)
-  sent-fits h = ap (λ (y : Outcome (List ℕ)). into y out) e ∙ into-fits v out h ∙ ap (left (answer (length v))) (front v out h)
+  sent-fits h = ap (λ (y : Outcome (List ℕ)). into y out) e ∙ into-fits v out h ∙ ap (left (answer (length v))) (at-front v out h)
 
   sent-short : length out < length v → into o out ≡ left (refused 6) out
   sent-short h = ap (λ (y : Outcome (List ℕ)). into y out) e ∙ into-short v out h
@@ -90,7 +90,7 @@ module _ {o : Outcome Decoded} {d : Decoded} (e : o ≡ answer d) (out : List �
   decoded-fits : length (d .bytes) ≤ length out
       → decodeInto o out ≡ (answer (length (d .bytes), d .command), d .bytes ++ drop (length (d .bytes)) out)
   unfolding intoWith pick
-  decoded-fits h = rw (e, le-ltb (length out) (length (d .bytes)) h, front (d .bytes) out h)
+  decoded-fits h = rw (e, le-ltb (length out) (length (d .bytes)) h, at-front (d .bytes) out h)
 
   decoded-not : length out < length (d .bytes) → decodeInto o out ≡ (refused 6, out)
   unfolding intoWith pick

@@ -1,5 +1,6 @@
--- The receiver's own definitions settle which calls are idle and which are endings, where its state and store are not refused: an idle call
--- changes nothing, any other push or join goes by the rules for a fragment, and an overflow lasts up to the next ending and no further.
+-- The receiver's own definitions settle which calls are idle and which are endings, where its state and store are not refused, as they never are
+-- in the list: an idle call changes nothing, any other push or join goes by the rules for a fragment, and an overflow lasts up to the next ending
+-- and no further.
 -- Assumes nothing.
 use mathlib.Core.Path.{_≡_, refl, sym, ap, _∙_}
 use mathlib.Core.Bool.{Bool, true, false, false≢true, _&&_, _||_, not}
@@ -10,21 +11,31 @@ use lib.Dec.{ltb, leb, eqb}
 use borrow.Author.Tests.{not-false, eqb-true, eqb-false, ltb-false, ne-eqb, eq-eqb, lt-ltb, le-ltb, lt-leb, le-leb}
 use Rattle.laws.specs.Pick.{pick}
 use Rattle.laws.proofs.Cases.{by-test, by-le, by-eq, or-left, or-right}
-use Rattle.refusals.specs.Limits.{fieldOk}
+use Rattle.refusals.specs.Limits.{fieldOk, maskOk}
 use Rattle.receiver.specs.Join.{After, answered, refusalOf, acceptOf, joinOf}
+use Rattle.receiver.specs.New.{freshOf}
 use Rattle.receiver.specs.Push.{fragmentLength, pushOf}
 use Rattle.receiver.specs.declared.Reassembler.{Reassembler}
 use Rattle.receiver.specs.declared.Push.the-variants.{Dropped}
-use Rattle.receiver.proofs.JoinLaws.{accept-over, join-empty, join-past, join-on}
+use Rattle.receiver.proofs.JoinLaws.{none-refused, accept-over, join-empty, join-past, join-on}
 use Rattle.receiver.proofs.PushLaws.{push-field, push-length, push-on}
-use Rattle.gateway.specs.Run.{Call, push, join, reset, state, Step, seen, stepOf, idle, ending}
+use Rattle.gateway.specs.Run.{Call, push, join, reset, state, Step, seen, stepOf, leftBy, idle, ending}
 use Rattle.gateway.specs.Script.{idleAnswer}
+use Rattle.gateway.proofs.Sim.{left-good, fresh-good}
 
 low-or-more : (b : ℕ) → leb 0x80 b ≡ not (ltb b 0x80)
 low-or-more b =
     by-le 0x80 b
     (λ l. le-leb 0x80 b l ∙ ap not (sym (le-ltb b 0x80 l)))
     (λ l. lt-leb 0x80 b l ∙ ap not (sym (lt-ltb b 0x80 l)))
+
+-- the state after any calls on a new receiver of an accepted mask and a store of 5,000 bytes
+pub never-refused : (m : ℕ) → maskOk m ≡ true → (s : List ℕ) → length s ≡ 5000 → (cs : List Call)
+    → refusalOf (leftBy (state (freshOf m) s) cs .receiver) (length (leftBy (state (freshOf m) s) cs .store)) ≡ 0
+never-refused m ok s size cs =
+    let t = leftBy (state (freshOf m) s) cs in
+    let g = left-good m ok (state (freshOf m) s) (fresh-good m s size) cs in
+    none-refused (t .receiver) (length (t .store)) (record { store = g .size; fit = g .fit; few = g .few; mask = ap maskOk (g .mask) ∙ ok })
 
 module _ (r : Reassembler) (s : List ℕ) (ok : refusalOf r (length s) ≡ 0) where
   -- ---- an idle call

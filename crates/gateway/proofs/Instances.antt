@@ -34,7 +34,7 @@ use Rattle.gateway.specs.Source.{CodedFrom}
 use Rattle.gateway.specs.Demand.{answerBefore, Frames, no-fragment, fragment-then, Message, Messages, no-message, message-then, Delivered, Claim}
 use Rattle.gateway.proofs.Demand.{demand-3}
 use Rattle.gateway.proofs.Handed.{lines-from}
-use Rattle.gateway.proofs.Lines.{countIn, Accepted, linesFrom, linesOf}
+use Rattle.gateway.proofs.Lines.{countIn, Accepted, linesFrom, linesOf, allLines}
 
 -- ---- every message that sender and frame accept has its frames
 
@@ -118,12 +118,12 @@ module _ {command : ℕ} {d : List ℕ} (c : Codable command d) (l : length d �
 abbrev raw : List ℕ
 raw = 0x80 ∷ 0x81 ∷ 0x14 ∷ 0xFF ∷ []
 
-abbrev pub short : Sending
-short = record { message = 0x20 ∷ raw; field = 3; control = λ k. record { reply = 0; compressed = false; hint = k }; marker = λ k. k }
+abbrev pub three : Sending
+three = record { message = 0x20 ∷ raw; field = 3; control = λ k. record { reply = 0; compressed = false; hint = k }; marker = λ k. k }
 
-pub short-three : countIn short ≡ 3
+pub three-count : countIn three ≡ 3
 unfolding countOf ceiling pick
-short-three = refl
+three-count = refl
 
 raw-bytes : Bytes raw
 raw-bytes zero h = omega arith
@@ -132,53 +132,59 @@ raw-bytes (suc (suc zero)) h = omega arith
 raw-bytes (suc (suc (suc zero))) h = omega arith
 raw-bytes (suc (suc (suc (suc k)))) h = absurd (omega arith)
 
-short-coded : CodedFrom (0x20 ∷ raw)
+three-coded : CodedFrom (0x20 ∷ raw)
 unfolding codeOf genericOf anyHigh pick
-short-coded = record { command = 2; original = raw; codable = generic raw-bytes; typ = 0; coded = refl }
+three-coded = record { command = 2; original = raw; codable = generic raw-bytes; typ = 0; coded = refl }
 
 module _ (m : ℕ) (ok : maskOk m ≡ true) (room : 3 ≤ mostOf m) where
-  short-able : Sendable (0x20 ∷ raw) 3 m
-  short-able =
-      record { field-ok = refl; mask-ok = ok; some = omega arith; short = omega arith; first-low = omega arith; room = omega (arith, room, short-three) }
+  three-able : Sendable (0x20 ∷ raw) 3 m
+  three-able =
+      record { field-ok = refl; mask-ok = ok; some = omega arith; short = omega arith; first-low = omega arith; room = omega (arith, room, three-count) }
 
-  short-accepted : Accepted m short
-  short-accepted =
+  three-accepted : Accepted m three
+  three-accepted =
       record {
-        sent = accepted-is (send-answer (0x20 ∷ raw) 3 m 0 short-able (omega (arith, short-three)));
-        framed = λ k h. accepted-is (build-answer 3 (fragmentOf (0x20 ∷ raw) 3 m k) (short .control k) k refl
+        sent = accepted-is (send-answer (0x20 ∷ raw) 3 m 0 three-able (omega (arith, three-count)));
+        framed = λ k h. accepted-is (build-answer 3 (fragmentOf (0x20 ∷ raw) 3 m k) (three .control k) k refl
             (fragment-some m (0x20 ∷ raw) 3 (omega arith) (omega arith) k)
             (fragment-fits m (0x20 ∷ raw) 3 (omega arith) (omega arith) k)
-            (λ e. omega (arith, short-three)) (omega arith) (omega (arith, short-three)));
+            (λ e. omega (arith, three-count)) (omega arith) (omega (arith, three-count)));
       }
 
-  pub short-message : Message m short (linesOf m short)
-  short-message = message-exists m short short-accepted short-coded
+  pub three-message : Message m three (linesOf m three)
+  three-message = message-exists m three three-accepted three-coded
 
-  pub short-answers : answers (linesOf m short) ≡ some more ∷ some more ∷ some (done 5 (0x20 ∷ raw)) ∷ []
+  pub three-answers : answers (linesOf m three) ≡ some more ∷ some more ∷ some (done 5 (0x20 ∷ raw)) ∷ []
   unfolding linesOf linesFrom countOf ceiling pick
-  short-answers = refl
+  three-answers = refl
 
 -- ---- idle calls before, between and after
 
--- refused for its field; a frame of another length; a frame without a fragment; n is 0; n is beyond f
+-- refused for its field
 abbrev i1 : Call
 i1 = push [] 0
 
+-- a frame of another length
 abbrev i2 : Call
 i2 = push [] 3
 
+-- a frame without a fragment
 abbrev i3 : Call
 i3 = push (replicate 6 0) 3
 
+-- n is 0
 abbrev i4 : Call
 i4 = join [] 0
 
+-- n is beyond f
 abbrev i5 : Call
 i5 = join (0x00 ∷ []) 2
 
+-- all five before a list
 abbrev idles : List Line → List Line
 idles ls = line i1 (idleAnswer i1) ∷ line i2 (idleAnswer i2) ∷ line i3 (idleAnswer i3) ∷ line i4 (idleAnswer i4) ∷ line i5 (idleAnswer i5) ∷ ls
 
+-- all five before, between and after the lines of a list
 pub with-idle : List Line → List Line
 with-idle [] = idles []
 with-idle (p ∷ ps) = idles (p ∷ with-idle ps)
@@ -195,11 +201,11 @@ idle-mixed (p ∷ ps) = idles-mixed (next p (idle-mixed ps))
 -- ---- demand 3 applied
 
 -- a message that is cut off, then a reset; and one that ends with a fragment below 80
-abbrev cut : List Call
-cut = join (0x80 ∷ 0x00 ∷ []) 2 ∷ reset ∷ []
+abbrev cut-off : List Call
+cut-off = join (0x80 ∷ 0x00 ∷ []) 2 ∷ reset ∷ []
 
-abbrev over : List Call
-over = join (0x80 ∷ 0x00 ∷ []) 2 ∷ join (0x7F ∷ []) 1 ∷ []
+abbrev low-end : List Call
+low-end = join (0x80 ∷ 0x00 ∷ []) 2 ∷ join (0x7F ∷ []) 1 ∷ []
 
 pub zeros : List ℕ
 zeros = replicate 5000 0
@@ -222,7 +228,7 @@ new-f8 = refl
 -- one of each kind
 abbrev six : List Sending
 six =
-    short
+    three
     ∷ report (plain plain-text) (omega arith)
     ∷ report (plain plain-binary) (omega arith)
     ∷ report (plain plain-position) (omega arith)
@@ -230,21 +236,18 @@ six =
     ∷ report (plain plain-message) (omega arith)
     ∷ []
 
-abbrev lines-of-six : List Sending → List Line
-lines-of-six [] = []
-lines-of-six (x ∷ xs) = linesOf 0xF0 x ++ lines-of-six xs
-
-pub room-f0 : 3 ≤ mostOf 0xF0
+room-f0 : 3 ≤ mostOf 0xF0
 unfolding mostOf
 room-f0 = omega arith
 
-pub room-f8 : 3 ≤ mostOf 0xF8
+room-f8 : 3 ≤ mostOf 0xF8
 unfolding mostOf
 room-f8 = omega arith
 
-pub all-kinds : Messages 0xF0 six (lines-of-six six)
+pub all-kinds : Messages 0xF0 six (allLines 0xF0 six)
+unfolding allLines
 all-kinds =
-    message-then (short-message 0xF0 refl room-f0)
+    message-then (three-message 0xF0 refl room-f0)
     (message-then (report-message (plain plain-text) (omega arith))
     (message-then (report-message (plain plain-binary) (omega arith))
     (message-then (report-message (plain plain-position) (omega arith))
@@ -252,18 +255,19 @@ all-kinds =
     (message-then (report-message (plain plain-message) (omega arith)) no-message)))))
 
 -- after a message that was cut off and a reset, with idle calls before, between and after all frames
-pub heard-all : Delivered all-kinds (freshOf 0xF0) zeros cut (with-idle (lines-of-six six))
-heard-all = claimed 0xF0 new-f0 .delivers cut refl six (lines-of-six six) all-kinds (with-idle (lines-of-six six)) (idle-mixed (lines-of-six six))
+pub heard-all : Delivered all-kinds (freshOf 0xF0) zeros cut-off (with-idle (allLines 0xF0 six))
+heard-all = claimed 0xF0 new-f0 .delivers cut-off refl six (allLines 0xF0 six) all-kinds (with-idle (allLines 0xF0 six)) (idle-mixed (allLines 0xF0 six))
 
 -- under F8, after a fragment below 80
-abbrev one : Messages 0xF8 (short ∷ []) (linesOf 0xF8 short ++ [])
-one = message-then (short-message 0xF8 refl room-f8) no-message
+pub one : Messages 0xF8 (three ∷ []) (allLines 0xF8 (three ∷ []))
+unfolding allLines
+one = message-then (three-message 0xF8 refl room-f8) no-message
 
-pub heard-short : Delivered one (freshOf 0xF8) zeros over (with-idle (linesOf 0xF8 short ++ []))
-heard-short =
-    claimed 0xF8 new-f8 .delivers over refl (short ∷ []) (linesOf 0xF8 short ++ []) one (with-idle (linesOf 0xF8 short ++ [])) (idle-mixed (linesOf 0xF8 short ++ []))
+pub heard-three : Delivered one (freshOf 0xF8) zeros low-end (with-idle (allLines 0xF8 (three ∷ [])))
+heard-three =
+    claimed 0xF8 new-f8 .delivers low-end refl (three ∷ []) (allLines 0xF8 (three ∷ [])) one (with-idle (allLines 0xF8 (three ∷ []))) (idle-mixed (allLines 0xF8 (three ∷ [])))
 
 -- the first part of the claim, on the same list, with stores of zeros
-pub forgotten : runOf (state (freshOf 0xF0) zeros) (cut ++ calls (with-idle (lines-of-six six)))
-    ≡ freshly (freshOf 0xF0) (λ past. zeros) [] (cut ++ calls (with-idle (lines-of-six six)))
-forgotten = claimed 0xF0 new-f0 .forgets (λ past. zeros) (λ past. zeros-size) (cut ++ calls (with-idle (lines-of-six six)))
+pub forgotten : runOf (state (freshOf 0xF0) zeros) (cut-off ++ calls (with-idle (allLines 0xF0 six)))
+    ≡ freshly (freshOf 0xF0) (λ past. zeros) [] (cut-off ++ calls (with-idle (allLines 0xF0 six)))
+forgotten = claimed 0xF0 new-f0 .forgets (λ past. zeros) (λ past. zeros-size) (cut-off ++ calls (with-idle (allLines 0xF0 six)))

@@ -55,7 +55,7 @@ leftBy t [] = t
 leftBy t (c ∷ cs) = leftBy (stepOf t c .next) cs
 
 -- "A push or join is idle where it is refused, its frame has another length, or n is 0 or beyond f". (With an accepted mask and a store of
--- 5,000 bytes it is refused only for its field.)
+-- 5,000 bytes it is refused only for its field: `never-refused` in proofs/Idle.)
 abbrev pub idle : Call → Bool
 idle (push f field) =
     not (fieldOk field)
