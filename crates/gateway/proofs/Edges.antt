@@ -36,7 +36,7 @@ pub data Edge : Type 0 where
   decodes : List ℕ → ℕ → List ℕ → Edge  -- a message, command and data
   counts : ℕ → ℕ → ℕ → Edge  -- field and bytes, the count
   refuses : List ℕ → ℕ → ℕ → ℕ → ℕ → Edge  -- a message, field, mask and k, the number that it is refused with
-  leaves : ℕ → ℕ → Edge  -- a mask, the largest count: of all bytes those up to it less 2 are free of the mask's bits, and no other
+  leaves : ℕ → ℕ → Edge  -- a mask, the largest count: a byte has no bit of the mask exactly where it is at most that count − 2
   sends : List ℕ → ℕ → ℕ → ℕ → List ℕ → Edge  -- a message, field, mask and k, fragment k
   token : String → String → Edge  -- a call, its bits
   reads : String → String → Edge  -- bits, the call

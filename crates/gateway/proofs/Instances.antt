@@ -1,5 +1,5 @@
--- The premises of demand 3 are met. Every message that sender and frame accept has its frames; every generic bytes and every plain frame of at
--- most 4,999 bytes is a message of the list, under F0 at field 512; and demand 3 is applied to a list of six messages, one of each kind.
+-- The premises of demand 3 are met. Every message that sender and frame accept has its frames; all generic bytes and all plain frames of at most
+-- 4,999 bytes are messages of the list, under F0 at field 512; and demand 3 is applied to a list of six messages of all kinds.
 -- Assumes nothing.
 use mathlib.Core.Path.{_≡_, refl, ap, subst}
 use mathlib.Core.Bool.{true, false}
