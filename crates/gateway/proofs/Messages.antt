@@ -93,7 +93,7 @@ module _ (m : ℕ) (top : Top m) (field : ℕ) (fok : fieldOk field ≡ true) (h
   abbrev piece : ℕ → List ℕ
   piece j = take (field - 1) (drop (place j) rest)
 
-  -- a piece behind those before it
+  -- a piece after those before it
   pieces : (j : ℕ) → take (place j) rest ++ piece j ≡ take (place (suc j)) rest
   pieces j =
       let e : place j + (field - 1) ≡ place (suc j) = omega arith in
