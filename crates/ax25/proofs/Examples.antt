@@ -1,8 +1,8 @@
--- Plain frames: one of each type, with digipeaters that have heard it and that have not.
+-- Plain frames: one of each type, with none to eight digipeaters that have heard it and that have not.
 -- Assumes nothing.
 use mathlib.Core.Path.{_≡_, refl}
 use mathlib.Core.Bool.{Bool, true, false, _&&_, not}
-use mathlib.Core.List.{List, [], _∷_}
+use mathlib.Core.List.{List, [], _∷_, _++_}
 use Prim.Native.Nat.{ℕ}
 use native.Mathlib.Omega.{arith}
 use lib.ListN.{length, getD}
@@ -16,7 +16,7 @@ use Rattle.laws.proofs.TextLaws.{below, at-each}
 use Rattle.ax25_token.specs.Token.{twoDigits, decimal, suffix}
 use Rattle.ax25_token.specs.Clean.{cleanLetter, cleanLetters, misread, callText, CleanCall}
 use Rattle.ax25_address.specs.Classify.{anyHigh, marksAt, isPosition, isTimestamped, isMessage, classifyOf}
-use Rattle.ax25_aprs.proofs.Examples.{a-position, a-timestamped, a-message}
+use Rattle.ax25_aprs.proofs.Examples.{remark, a-position, a-timestamped, a-message}
 use Rattle.ax25.specs.Plain.{Address, AllClean, addressBytes, addressField, text, binary, body, Plain}
 
 bytes-by : (s : List ℕ) → below (λ i. ltb (getD s i 0) 256) (length s) ≡ true → Bytes s
@@ -102,26 +102,44 @@ plain-binary =
       kind = binary refl;
     }
 
--- Position: the first digipeater has heard it, the second has not
+-- Position: of eight digipeaters the first five have heard it, the other three have not; the comment ends with 7F
+abbrev eight : List Address
+eight =
+    to (ascii "WIDE1") 1 true
+    ∷ to (ascii "N0CALL") 15 true
+    ∷ to (ascii "K1A") 3 true
+    ∷ to (ascii "W7XYZ") 0 true
+    ∷ to (ascii "RELAY") 0 true
+    ∷ to (ascii "WIDE3") 3 false
+    ∷ to (ascii "WIDE2") 1 false
+    ∷ to (ascii "GATE") 7 false
+    ∷ []
+
 pub plain-position : Plain (
     0x82 ∷ 0xA0 ∷ 0xA4 ∷ 0xA6 ∷ 0x40 ∷ 0x40 ∷ 0x60
     ∷ 0x96 ∷ 0x62 ∷ 0x82 ∷ 0x40 ∷ 0x40 ∷ 0x40 ∷ 0x60
     ∷ 0xAE ∷ 0x92 ∷ 0x88 ∷ 0x8A ∷ 0x62 ∷ 0x40 ∷ 0xE2
-    ∷ 0xAE ∷ 0x92 ∷ 0x88 ∷ 0x8A ∷ 0x64 ∷ 0x40 ∷ 0x63
-    ∷ 0x03 ∷ 0xF0 ∷ ascii "!4730.12N/12217.56W>PinPoint 40 m /A=001234 ack"
+    ∷ 0x9C ∷ 0x60 ∷ 0x86 ∷ 0x82 ∷ 0x98 ∷ 0x98 ∷ 0xFE
+    ∷ 0x96 ∷ 0x62 ∷ 0x82 ∷ 0x40 ∷ 0x40 ∷ 0x40 ∷ 0xE6
+    ∷ 0xAE ∷ 0x6E ∷ 0xB0 ∷ 0xB2 ∷ 0xB4 ∷ 0x40 ∷ 0xE0
+    ∷ 0xA4 ∷ 0x8A ∷ 0x98 ∷ 0x82 ∷ 0xB2 ∷ 0x40 ∷ 0xE0
+    ∷ 0xAE ∷ 0x92 ∷ 0x88 ∷ 0x8A ∷ 0x66 ∷ 0x40 ∷ 0x66
+    ∷ 0xAE ∷ 0x92 ∷ 0x88 ∷ 0x8A ∷ 0x64 ∷ 0x40 ∷ 0x62
+    ∷ 0x8E ∷ 0x82 ∷ 0xA8 ∷ 0x8A ∷ 0x40 ∷ 0x40 ∷ 0x6F
+    ∷ 0x03 ∷ 0xF0 ∷ ascii "!4730.12N/12217.56W>" ++ remark
     )
 unfolding allTest cleanTest cleanLetters cleanLetter callText suffix decimal twoDigits isOneOf same misread addressField addressBytes filled pick starts below classifyOf anyHigh marksAt isPosition isTimestamped isMessage isDigit between
 plain-position =
     record {
       dest = to (ascii "APRS") 0 false;
       src = to (ascii "K1A") 0 false;
-      digis = to (ascii "WIDE1") 1 true ∷ to (ascii "WIDE2") 1 false ∷ [];
-      info = ascii "!4730.12N/12217.56W>PinPoint 40 m /A=001234 ack";
+      digis = eight;
+      info = ascii "!4730.12N/12217.56W>" ++ remark;
       dest-unheard = refl;
       src-unheard = refl;
-      clean = all-clean (to (ascii "APRS") 0 false ∷ to (ascii "K1A") 0 false ∷ to (ascii "WIDE1") 1 true ∷ to (ascii "WIDE2") 1 false ∷ []) refl;
+      clean = all-clean (to (ascii "APRS") 0 false ∷ to (ascii "K1A") 0 false ∷ eight) refl;
       few = omega arith;
-      octets = bytes-by (ascii "!4730.12N/12217.56W>PinPoint 40 m /A=001234 ack") refl;
+      octets = bytes-by (ascii "!4730.12N/12217.56W>" ++ remark) refl;
       is = refl;
       kind = body a-position;
     }
@@ -130,7 +148,7 @@ plain-position =
 pub plain-timestamped : Plain (
     0x82 ∷ 0xA0 ∷ 0xA4 ∷ 0xA6 ∷ 0x40 ∷ 0x40 ∷ 0x60
     ∷ 0x9C ∷ 0x60 ∷ 0x86 ∷ 0x82 ∷ 0x98 ∷ 0x98 ∷ 0x7F
-    ∷ 0x03 ∷ 0xF0 ∷ ascii "@123456h4730.12N/12217.56W>PinPoint 40 m /A=001234 ack"
+    ∷ 0x03 ∷ 0xF0 ∷ ascii "@123456h4730.12N/12217.56W>" ++ remark
     )
 unfolding allTest cleanTest cleanLetters cleanLetter callText suffix decimal twoDigits isOneOf same misread addressField addressBytes filled pick starts below classifyOf anyHigh marksAt isPosition isTimestamped isMessage isDigit between
 plain-timestamped =
@@ -138,12 +156,12 @@ plain-timestamped =
       dest = to (ascii "APRS") 0 false;
       src = to (ascii "N0CALL") 15 false;
       digis = [];
-      info = ascii "@123456h4730.12N/12217.56W>PinPoint 40 m /A=001234 ack";
+      info = ascii "@123456h4730.12N/12217.56W>" ++ remark;
       dest-unheard = refl;
       src-unheard = refl;
       clean = all-clean (to (ascii "APRS") 0 false ∷ to (ascii "N0CALL") 15 false ∷ []) refl;
       few = omega arith;
-      octets = bytes-by (ascii "@123456h4730.12N/12217.56W>PinPoint 40 m /A=001234 ack") refl;
+      octets = bytes-by (ascii "@123456h4730.12N/12217.56W>" ++ remark) refl;
       is = refl;
       kind = body a-timestamped;
     }

@@ -59,6 +59,10 @@ altitudes-by s t i e =
 
 -- ---- a position and a call
 
+-- a comment with words of the dictionary, an altitude and the highest byte
+abbrev pub remark : List ℕ
+remark = ascii "PinPoint 40 m /A=001234 ack" ++ (0x7F ∷ [])
+
 here : Place
 here =
     record {
@@ -68,7 +72,7 @@ here =
       lon = ascii "1221756";
       west = true;
       symbol = 0x3E;
-      comment = ascii "PinPoint 40 m /A=001234 ack";
+      comment = remark;
     }
 
 here-plain : PlainPlace here
@@ -90,11 +94,11 @@ call-clean = record { clean = refl; some-letters = omega arith; few-letters = om
 
 -- ---- one plain body of each type
 
-pub a-position : PlainBody Position (ascii "!4730.12N/12217.56W>PinPoint 40 m /A=001234 ack")
+pub a-position : PlainBody Position (ascii "!4730.12N/12217.56W>" ++ remark)
 unfolding here placeBytes dotted side pick
 a-position = position here here-plain
 
-pub a-timestamped : PlainBody TimestampedPosition (ascii "@123456h4730.12N/12217.56W>PinPoint 40 m /A=001234 ack")
+pub a-timestamped : PlainBody TimestampedPosition (ascii "@123456h4730.12N/12217.56W>" ++ remark)
 unfolding here placeBytes dotted side pick ofDigits inRange below between
 a-timestamped = timestamped (ascii "123456") here (of-digits 6 (ascii "123456") refl) here-plain
 

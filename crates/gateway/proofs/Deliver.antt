@@ -1,7 +1,8 @@
--- Demand 3, its second part, for messages that are any bytes the sender accepts: they are handed out, with idle calls anywhere between.
+-- Lemmas of `demand-3`, for its part `delivers`: the frames of messages that are any bytes the sender accepts have their answers, with idle
+-- calls anywhere between.
 -- Assumes nothing.
 use mathlib.Core.Path.{_≡_, refl, ap, ap₂, _∙_}
-use mathlib.Core.Bool.{true, false, false≢true}
+use mathlib.Core.Bool.{true, false≢true}
 use mathlib.Core.List.{List, [], _∷_}
 use mathlib.Core.Option.{Option}
 use Prim.Native.Nat.{ℕ, _+_}
@@ -14,7 +15,8 @@ use Rattle.receiver.specs.Join.{Heard, refused, dropped}
 use Rattle.receiver.specs.New.{freshOf}
 use Rattle.receiver.specs.Push.{fragmentLength}
 use Rattle.gateway.specs.Run.{Call, push, join, reset, state, leftBy, runOf, idle}
-use Rattle.gateway.specs.Script.{Sending, AllAccepted, Line, calls, answers, allLines, idleAnswer, Mixed, finished, still, next, settled}
+use Rattle.gateway.specs.Script.{Sending, Line, calls, answers, idleAnswer, Mixed, finished, still, next, settled}
+use Rattle.gateway.proofs.Lines.{AllAccepted, allLines}
 use Rattle.gateway.proofs.View.{Held, empty, out, joinV, stepV, leftV, runV, joinV-empty, joinV-past, pushV-field, pushV-length, pushV-on}
 use Rattle.gateway.proofs.Sim.{left-good, left-sim, run-sim, fresh-good, fresh-view}
 use Rattle.gateway.proofs.Forget.{step-ends}
@@ -64,7 +66,7 @@ module _ (m : ℕ) where
   settled-empty [] e = unfold leftV in refl
   settled-empty (c ∷ cs) e = settled-left empty cs c e
 
--- ---- the theorem
+-- ---- every list of messages
 
 pub deliver : (m : ℕ) → maskOk m ≡ true → (s : List ℕ) → length s ≡ 5000
     → (before : List Call) → settled before ≡ true

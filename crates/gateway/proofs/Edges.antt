@@ -1,16 +1,17 @@
 -- Document 01's edges marked P: one table that holds of the definitions as a whole.
 -- Assumes nothing.
 use mathlib.Core.Path.{_≡_, refl}
-use mathlib.Core.Bool.{Bool, true, false, _&&_}
+use mathlib.Core.Bool.{Bool, true, false, _&&_, not}
 use mathlib.Core.List.{List, [], _∷_, map}
 use mathlib.Core.Option.{Option, none, some}
-use Prim.Native.Nat.{ℕ}
+use Prim.Native.Nat.{ℕ, zero, suc, _+_}
 use Prim.Native.String.{String}
-use lib.Dec.{eqb}
-use lib.ListN.{replicate}
+use lib.Bits.{bitAnd}
+use lib.Dec.{leb, eqb}
 use Rattle.laws.specs.Bits.{odd, num, bitsOf, valueOf, fit, packN, pack, unpack}
 use Rattle.laws.specs.Pick.{pick}
 use Rattle.laws.specs.Text.{ascii, same, between, upper, isOneOf, starts, later, position, trimFront, keepOr, trimEnd, trim}
+use Rattle.laws.proofs.TextLaws.{below}
 use Rattle.crc.specs.Crc.{crcBit, crcSteps, crcByte, crcFrom, crcOf, crcBits}
 use Rattle.bits.specs.Read.{letter, takeBits, takeText}
 use Rattle.bits_write.specs.Text7.{sevens, lastOr, text7Bits}
@@ -34,7 +35,8 @@ pub data Edge : Type 0 where
   codes : ℕ → List ℕ → List ℕ → Edge  -- command and data, the message
   decodes : List ℕ → ℕ → List ℕ → Edge  -- a message, command and data
   counts : ℕ → ℕ → ℕ → Edge  -- field and bytes, the count
-  refuses : ℕ → ℕ → ℕ → ℕ → Edge  -- field, bytes and mask, the number that so many zeros are refused with
+  refuses : List ℕ → ℕ → ℕ → ℕ → ℕ → Edge  -- a message, field, mask and k, the number that it is refused with
+  leaves : ℕ → ℕ → Edge  -- a mask, the largest count: a byte has no bit of the mask exactly where it is at most that count − 2
   sends : List ℕ → ℕ → ℕ → ℕ → List ℕ → Edge  -- a message, field, mask and k, fragment k
   token : String → String → Edge  -- a call, its bits
   reads : String → String → Edge  -- bits, the call
@@ -45,6 +47,11 @@ frame = 0x86 ∷ 0xA2 ∷ 0x40 ∷ 0x40 ∷ 0x40 ∷ 0x40 ∷ 0x60 ∷ 0x96 ∷ 
 
 message : List ℕ
 message = 0x40 ∷ 0xAC ∷ 0xB7 ∷ 0x01 ∷ 0x00 ∷ 0x10 ∷ 0x40 ∷ []
+
+-- n bytes: i, i + 1 and so on
+from : ℕ → ℕ → List ℕ
+from i zero = []
+from i (suc n) = i ∷ from (suc i) n
 
 pub table : List Edge
 table =
@@ -58,11 +65,19 @@ table =
     ∷ counts 5 8 2
     ∷ counts 5 9 3
     ∷ counts 3 34 17
+    ∷ sends (from 1 34) 3 0xF0 0 (0x81 ∷ 0xEF ∷ 0x02 ∷ [])
+    ∷ sends (from 1 34) 3 0xF0 16 (0x01 ∷ 0x21 ∷ 0x22 ∷ [])
+    ∷ refuses (from 1 34) 3 0xF0 17 13
     ∷ counts 3 35 18
-    ∷ refuses 3 35 0xF0 12
+    ∷ refuses (from 1 35) 3 0xF0 0 12
+    ∷ leaves 0xF0 17
     ∷ counts 3 18 9
+    ∷ sends (from 1 18) 3 0xF8 0 (0x81 ∷ 0xE7 ∷ 0x02 ∷ [])
+    ∷ sends (from 1 18) 3 0xF8 8 (0x01 ∷ 0x11 ∷ 0x12 ∷ [])
+    ∷ refuses (from 1 18) 3 0xF8 9 13
     ∷ counts 3 19 10
-    ∷ refuses 3 19 0xF8 12
+    ∷ refuses (from 1 19) 3 0xF8 0 12
+    ∷ leaves 0xF8 9
     ∷ token "WIDE1-1" "100101001"
     ∷ token "WIDE2-2" "100101110"
     ∷ reads "100101110" "WIDE2-10"
@@ -104,11 +119,16 @@ givesCall none c = false
 givesCall (some (t, [])) c = same t c
 givesCall (some (t, x ∷ b)) c = false
 
+alike : Bool → Bool → Bool
+alike true b = b
+alike false b = not b
+
 pub holds : Edge → Bool
 holds (codes command d m) = givesMessage (codeOf command d) m
 holds (decodes m command d) = givesData (decodeOf m) command d
 holds (counts field bytes count) = givesCount (countFor bytes field) count
-holds (refuses field bytes mask n) = isRefused (sendOf (replicate bytes 0) field mask 0) n
+holds (refuses m field mask k n) = isRefused (sendOf m field mask k) n
+holds (leaves mask most) = eqb (mostOf mask) most && below (λ x. alike (leb (x + 2) most) (eqb (bitAnd x mask) 0)) 256
 holds (sends m field mask k f) = givesFragment (sendOf m field mask k) f
 holds (token c b) = givesBits (tokenBits 6 (ascii c)) (ascii b)
 holds (reads b c) = givesCall (readToken 6 (map (λ x. eqb x 49) (ascii b))) (ascii c)
@@ -118,5 +138,5 @@ all [] = true
 all (e ∷ es) = holds e && all es
 
 pub table-holds : all table ≡ true
-unfolding frame message table givesMessage givesData givesCount isRefused givesFragment givesBits givesCall holds all odd num bitsOf valueOf fit packN pack unpack pick between upper same isOneOf starts later position trimFront keepOr trimEnd trim crcBit crcSteps crcByte crcFrom crcOf crcBits takeBits takeText sevens numbers lastOr text7Bits differ counted endOf text7Of stops nextVal valFrom valOf ceiling countOf countFor checkOf leadOf fragmentOf mostOf sendOf callAlphabet long symOf alphaOf wideTokens wideRow pairRows pairTexts fixedRows numberedRows hyphened baseOf behind numberAt twoDigits decimal suffix pairBits pairsBits fixedBits takes numberedBits spell ending plainAp apBits spelledBits orElse tokenBits after pairForm fixedForm numberedForm symbolForm formOf wideNumber readPair readNumber letterOf goOn readLetters readSpelled readForm readToken white half addrCall double cutTo ssidOf callBytes anyHigh classifyOf splitOff digiFields parseOf typeOf headerOf bodyBytes tokensBits digiBits headBits infoBits frameBits codeParsed encodeOf marked readTokens readDigis readHead readInfo addresses readFrame genericOf genericBack codeOf decodeMessage decodeSome decodeOf
+unfolding frame message from table alike below givesMessage givesData givesCount isRefused givesFragment givesBits givesCall holds all odd num bitsOf valueOf fit packN pack unpack pick between upper same isOneOf starts later position trimFront keepOr trimEnd trim crcBit crcSteps crcByte crcFrom crcOf crcBits takeBits takeText sevens numbers lastOr text7Bits differ counted endOf text7Of stops nextVal valFrom valOf ceiling countOf countFor checkOf leadOf fragmentOf mostOf sendOf callAlphabet long symOf alphaOf wideTokens wideRow pairRows pairTexts fixedRows numberedRows hyphened baseOf behind numberAt twoDigits decimal suffix pairBits pairsBits fixedBits takes numberedBits spell ending plainAp apBits spelledBits orElse tokenBits after pairForm fixedForm numberedForm symbolForm formOf wideNumber readPair readNumber letterOf goOn readLetters readSpelled readForm readToken white half addrCall double cutTo ssidOf callBytes anyHigh classifyOf splitOff digiFields parseOf typeOf headerOf bodyBytes tokensBits digiBits headBits infoBits frameBits codeParsed encodeOf marked readTokens readDigis readHead readInfo addresses readFrame genericOf genericBack codeOf decodeMessage decodeSome decodeOf
 table-holds = refl

@@ -1,5 +1,5 @@
--- Demand 3, its first part: each answer is the one that a fresh receiver gives to the same call after only the calls since the last ending
--- before it, or since the start.
+-- Lemmas of `demand-3`, for its part `forgets`: each answer is the one that a fresh receiver gives to the same call after only the calls since
+-- the last ending before it, or since the start.
 -- Assumes nothing.
 use mathlib.Core.Path.{_≡_, refl, sym, ap, ap₂, _∙_}
 use mathlib.Core.Bool.{true, false, _||_, not}
@@ -16,6 +16,7 @@ use Rattle.receiver.specs.Join.{Heard}
 use Rattle.receiver.specs.New.{freshOf}
 use Rattle.receiver.specs.Push.{fragmentLength}
 use Rattle.gateway.specs.Run.{Call, push, join, reset, State, state, stepOf, leftBy, runOf, idle, ending, anyEnding, since, freshly}
+use Rattle.gateway.proofs.Since.{none-since}
 use Rattle.gateway.proofs.View.{Held, empty, over, part, growV, acceptV, joinV, stepV, leftV, growV-many, growV-long, growV-last, acceptV-only, acceptV-over, acceptV-next, joinV-on, pushV-on}
 use Rattle.gateway.proofs.Sim.{step-sim, left-good, left-sim, fresh-good, fresh-view}
 
@@ -76,15 +77,10 @@ module _ (m : ℕ) where
   any-since h [] e = cc
   any-since h (c ∷ cs) e = any-step h c cs e (any-since (stepV m h c .next) cs)
 
-  none-since : (cs : List Call) → anyEnding cs ≡ false → since cs ≡ cs
-  unfolding anyEnding since pick
-  none-since [] e = refl
-  none-since (c ∷ cs) e = simp (or-right (ending c) (anyEnding cs) e, or-left (ending c) (anyEnding cs) e)
-
   left-since : (cs : List Call) → leftV m empty cs ≡ leftV m empty (since cs)
   left-since cs = by-test (anyEnding cs) (any-since empty cs) (λ o. ap (leftV m empty) (sym (none-since cs o)))
 
--- ---- the theorem
+-- ---- every list of calls
 
 module _ (m : ℕ) (ok : maskOk m ≡ true) where
   -- for a call after any list of calls: each receiver is new with the mask m, and each store has 5,000 bytes, whatever they hold
@@ -106,7 +102,7 @@ module _ (m : ℕ) (ok : maskOk m ≡ true) where
   left-snoc t (d ∷ past) c = left-snoc (stepOf t d .next) past c
 
   module _ (s : List ℕ) (l : length s ≡ 5000) (stores : List Call → List ℕ) (ls : (p : List Call) → length (stores p) ≡ 5000) where
-    freshly-from : (past cs : List Call) → runOf (leftBy (state (freshOf m) s) past) cs ≡ freshly m stores past cs
+    freshly-from : (past cs : List Call) → runOf (leftBy (state (freshOf m) s) past) cs ≡ freshly (freshOf m) stores past cs
     unfolding runOf freshly
     freshly-from past [] = refl
     freshly-from past (c ∷ cs) =
@@ -114,6 +110,6 @@ module _ (m : ℕ) (ok : maskOk m ≡ true) where
         (ap (λ (t : State). runOf t cs) (sym (left-snoc (state (freshOf m) s) past c)) ∙ freshly-from (past ++ (c ∷ [])) cs)
 
     -- for every list of calls
-    pub forget : (cs : List Call) → runOf (state (freshOf m) s) cs ≡ freshly m stores [] cs
+    pub forget : (cs : List Call) → runOf (state (freshOf m) s) cs ≡ freshly (freshOf m) stores [] cs
     unfolding leftBy
     forget cs = freshly-from [] cs

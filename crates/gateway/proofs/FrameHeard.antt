@@ -40,7 +40,7 @@ unfolding lastFrom fillOf pick
 last-fill i b zero marker h = refl
 last-fill i b (suc n) marker h = rw (ne-eqb marker 0x14 h, lastFrom) (last-zeros (i + 1) b n)
 
--- behind the fragment, its terminator is the last
+-- after the fragment, its terminator is the last
 last-body : (fragment : List ℕ) (n marker : ℕ) → (marker ≡ 0x14 → ⊥) → lastFrom 0 0 (fragment ++ (terminator ∷ fillOf n marker)) ≡ length fragment
 unfolding lastFrom pick
 last-body fragment n marker h =

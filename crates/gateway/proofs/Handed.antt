@@ -1,8 +1,8 @@
--- Demand 3, its second part whole: what is handed out is the messages, and they decode to the original bytes.
+-- Lemmas of `demand-3`, for its part `delivers`: what is handed out is the messages, and each decodes to the original bytes.
 -- Assumes nothing.
-use mathlib.Core.Path.{_≡_, refl, sym, ap, ap₂, _∙_}
+use mathlib.Core.Path.{_≡_, refl, sym, ap, _∙_}
 use mathlib.Core.Bool.{Bool, true, false}
-use mathlib.Core.List.{List, [], _∷_, _++_, map}
+use mathlib.Core.List.{List, [], _∷_, _++_}
 use mathlib.Core.Option.{Option, none, some}
 use Prim.Native.Nat.{ℕ, zero, suc, _≤_}
 use native.Mathlib.Nat.{not-suc-le-zero}
@@ -10,24 +10,24 @@ use native.Mathlib.Omega.{arith}
 use lib.ListN.{length}
 use borrow.Author.Tests.{ne-eqb}
 use Rattle.laws.specs.Pick.{pick}
-use Rattle.refusals.specs.Limits.{fieldOk, maskOk}
-use Rattle.refusals.specs.Outcome.{Outcome, answer}
+use Rattle.refusals.specs.Limits.{fieldOk}
+use Rattle.refusals.specs.Outcome.{answer}
+use Rattle.refusals.proofs.OutcomeLaws.{same-answer}
 use Rattle.sender.proofs.CountLaws.{count-pos}
 use Rattle.receiver.specs.Join.{Heard, refused, dropped, more, done}
-use Rattle.receiver.specs.New.{freshOf}
 use Rattle.ax25.specs.Encode.{Coded}
-use Rattle.kiss.specs.Codec.{Decoded, decodeOf}
+use Rattle.kiss.specs.Codec.{decodeOf}
 use Rattle.kiss.proofs.CodeBounds.{code-short}
 use Rattle.kiss.proofs.CodecBack.{codec-back}
-use Rattle.gateway.specs.Run.{Call, push, join, reset, state, leftBy, runOf}
-use Rattle.gateway.specs.Script.{Sending, countIn, AllAccepted, Line, calls, answers, linesFrom, linesOf, allLines, idleAnswer, Mixed, finished, still, next, settled}
-use Rattle.gateway.specs.Source.{CodedFrom, AllCoded, handed, messagesOf, originals}
-use Rattle.gateway.proofs.Deliver.{deliver}
+use Rattle.gateway.specs.Run.{Call, push, join, reset}
+use Rattle.gateway.specs.Script.{Sending, Line, answers, idleAnswer, Mixed, finished, still, next}
+use Rattle.gateway.specs.Source.{CodedFrom, handed, messagesOf}
+use Rattle.gateway.proofs.Lines.{countIn, linesFrom, linesOf, allLines}
 
 -- ---- the messages among the answers
 
 module _ (m : ℕ) (x : Sending) where
-  lines-from : (n k : ℕ) → length (linesFrom m x k n) ≡ n
+  pub lines-from : (n k : ℕ) → length (linesFrom m x k n) ≡ n
   unfolding linesFrom
   lines-from zero k = refl
   lines-from (suc n) k = ap suc (lines-from n (suc k))
@@ -77,39 +77,14 @@ handed-all m (x ∷ xs) =
     ∙ handed-lines m x (countIn x) 0 (answers (allLines m xs)) (count-pos (length (x .message)) (x .field))
     ∙ ap (λ (r : List (List ℕ)). x .message ∷ r) (handed-all m xs)
 
+pub delivered : (m : ℕ) (xs : List Sending) (ls : List Line) → Mixed (allLines m xs) ls → handed (answers ls) ≡ messagesOf xs
+delivered m xs ls x = handed-mixed x ∙ handed-all m xs
+
 -- ---- each decodes to its original
 
-answer-same : {A : Type 0} {a b : A} → answer a ≡ answer b → a ≡ b
-answer-same e = cc
-
 module _ {message : List ℕ} (c : CodedFrom message) where
-  decoded-back : decodeOf message ≡ answer (record { command = c .command; bytes = c .original })
+  pub decoded-back : decodeOf message ≡ answer (record { command = c .command; bytes = c .original })
   decoded-back =
       let b = codec-back (c .codable) (code-short (c .command) (c .original) (record { bytes = message; typ = c .typ }) (c .coded)) in
-      let e : message ≡ b .message = ap (λ (k : Coded). k .bytes) (answer-same (sym (c .coded) ∙ b .coded)) in
+      let e : message ≡ b .message = ap (λ (k : Coded). k .bytes) (same-answer (sym (c .coded) ∙ b .coded)) in
       ap decodeOf e ∙ b .back
-
-all-decoded : (xs : List Sending) (c : AllCoded xs) → map decodeOf (messagesOf xs) ≡ originals xs c
-all-decoded [] c = refl
-all-decoded (x ∷ xs) c = ap₂ {A = Outcome Decoded} {B = List (Outcome Decoded)} (λ a r. a ∷ r) (decoded-back (c .0)) (all-decoded xs (c .1))
-
--- ---- the theorem
-
--- what a run of these calls gives
-pub record Delivered (run : List (Option Heard)) (ls : List Line) (xs : List Sending) (c : AllCoded xs) : Type 0 where
-  -- each call has its answer
-  pub answered : run ≡ answers ls
-  -- "What is handed out is the message"
-  pub handed-out : handed run ≡ messagesOf xs
-  -- "and it decodes to the original bytes"
-  pub decoded : map decodeOf (handed run) ≡ originals xs c
-
-pub delivered : (m : ℕ) → maskOk m ≡ true → (s : List ℕ) → length s ≡ 5000
-    → (before : List Call) → settled before ≡ true
-    → (xs : List Sending) (c : AllCoded xs) → AllAccepted m xs
-    → (ls : List Line) → Mixed (allLines m xs) ls
-    → Delivered (runOf (leftBy (state (freshOf m) s) before) (calls ls)) ls xs c
-delivered m ok s l before q xs c a ls x =
-    let e = deliver m ok s l before q xs a ls x in
-    let h = ap handed e ∙ handed-mixed x ∙ handed-all m xs in
-    record { answered = e; handed-out = h; decoded = ap (map decodeOf) h ∙ all-decoded xs c }

@@ -1,9 +1,14 @@
 pub mod CheckByte
 pub mod Deliver
+pub mod Demand
 pub mod Edges
 pub mod Forget
 pub mod FrameHeard
 pub mod Handed
+pub mod Idle
+pub mod Instances
+pub mod Lines
 pub mod Messages
 pub mod Sim
+pub mod Since
 pub mod View

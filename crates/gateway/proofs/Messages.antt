@@ -24,9 +24,10 @@ use Rattle.frame.specs.declared.Control.{Control}
 use Rattle.frame.proofs.FrameLaws.{frame-starts, build-accepted}
 use Rattle.receiver.specs.Join.{Heard, more, done}
 use Rattle.gateway.specs.Run.{Call, push}
-use Rattle.gateway.specs.Script.{Sending, Accepted, AllAccepted, Line, line, calls, answers, linesFrom, linesOf, allLines}
+use Rattle.gateway.specs.Script.{Sending, Line, line, calls, answers}
 use Rattle.gateway.proofs.CheckByte.{most-few, check-passes}
 use Rattle.gateway.proofs.FrameHeard.{pushed, front-first, front-only, front-next}
+use Rattle.gateway.proofs.Lines.{Accepted, AllAccepted, linesFrom, linesOf, allLines}
 use Rattle.gateway.proofs.View.{Held, empty, part, Out, out, acceptV, stepV, runV, endV, growV-more, growV-last, end-one, end-good}
 
 -- ---- one message, h and then rest
@@ -92,7 +93,7 @@ module _ (m : ℕ) (top : Top m) (field : ℕ) (fok : fieldOk field ≡ true) (h
   abbrev piece : ℕ → List ℕ
   piece j = take (field - 1) (drop (place j) rest)
 
-  -- a piece behind those before it
+  -- a piece after those before it
   pieces : (j : ℕ) → take (place j) rest ++ piece j ≡ take (place (suc j)) rest
   pieces j =
       let e : place j + (field - 1) ≡ place (suc j) = omega arith in

@@ -118,15 +118,15 @@ module _ (r : Reassembler) (s : List ℕ) (b : ℕ) (t : List ℕ) (size : lengt
       (λ k. rw (grow-many r s b t k, growV-many (r .«crc_mask») buf (r .nfrag) (r .count) b t k) emptied-sim)
       (λ k. by-le (baseOf (r .held) + length t) 5000
       (λ l. by-le 0x80 b
-      (λ f. rw (grow-more r s b t k (omega arith) f, growV-more (r .«crc_mask») buf (r .nfrag) (r .count) b t k (omega (arith, length-buf)) f)
+      (λ f. rw (grow-more r s b t k l f, growV-more (r .«crc_mask») buf (r .nfrag) (r .count) b t k (omega (arith, length-buf)) f)
       (record {
         answer = refl;
         next = grown-view l;
         good = record { size = full-size; fit = l; few = omega arith; mask = refl; clear = λ e. cc };
       }))
-      (λ f. rw (grow-last r s b t k (omega arith) f, growV-last (r .«crc_mask») buf (r .nfrag) (r .count) b t k (omega (arith, length-buf)) f)
+      (λ f. rw (grow-last r s b t k l f, growV-last (r .«crc_mask») buf (r .nfrag) (r .count) b t k (omega (arith, length-buf)) f)
       (rw (take-full l) at (finish-sim (grown r (length t)) full b full-size (omega (arith, base-pos (r .held))) l (omega arith) refl))))
-      (λ l. rw (grow-long r s b t k (omega (arith, base-fits)), growV-long (r .«crc_mask») buf (r .nfrag) (r .count) b t k (omega (arith, length-buf))) emptied-sim))
+      (λ l. rw (grow-long r s b t l, growV-long (r .«crc_mask») buf (r .nfrag) (r .count) b t k (omega (arith, length-buf))) emptied-sim))
 
 -- ---- a fragment
 

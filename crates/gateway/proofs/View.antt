@@ -41,7 +41,7 @@ module _ (m : ℕ) where
   unfoldable pub endV : List ℕ → ℕ → ℕ → Heard
   endV msg k c = pick (ltb k 2) (done (length msg) msg) (pick (eqb (crcBits msg m) (bitAnd c m)) (done (length msg) msg) dropped)
 
-  -- a tail goes behind buf
+  -- a tail goes after buf
   unfoldable pub growV : List ℕ → ℕ → ℕ → ℕ → List ℕ → Out
   growV buf k c b t =
       pick (leb 255 k || ltb 5000 (length buf + length t))

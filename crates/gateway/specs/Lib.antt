@@ -1,3 +1,4 @@
+pub mod Demand
 pub mod Run
 pub mod Script
 pub mod Source

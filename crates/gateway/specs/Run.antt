@@ -9,47 +9,53 @@ use lib.Dec.{ltb, eqb}
 use Rattle.laws.specs.Pick.{pick}
 use Rattle.refusals.specs.Limits.{fieldOk}
 use Rattle.receiver.specs.Join.{Heard, After, resetOf, joinOf}
-use Rattle.receiver.specs.New.{freshOf}
 use Rattle.receiver.specs.Push.{fragmentLength, pushOf}
 use Rattle.receiver.specs.declared.Reassembler.{Reassembler}
 
+-- A call on the receiver and its store.
 pub data Call : Type 0 where
   push : List ℕ → ℕ → Call  -- a frame, and the field
   join : List ℕ → ℕ → Call  -- f, and n
   reset : Call
 
--- a receiver and its store
+-- A receiver and its store.
 pub record State : Type 0 where
   pub receiver : Reassembler
   pub store : List ℕ
 
+-- The state of a receiver and a store.
 abbrev pub state : Reassembler → List ℕ → State
 state r s = record { receiver = r; store = s }
 
--- what a call answers, a reset nothing, and the state that it leaves
+-- What a call answers, a reset nothing, and the state that it leaves. "An answer is a refusal number, Dropped, More, or Done with its length
+-- and that many first bytes of the store": `Heard` of receiver/specs/Join.
 pub record Step : Type 0 where
   pub answer : Option Heard
   pub next : State
 
+-- The step of a push or a join.
 abbrev pub seen : After → Step
 seen a = record { answer = some (a .heard); next = state (a .receiver) (a .store) }
 
+-- One call.
 abbrev pub stepOf : State → Call → Step
 stepOf t (push f field) = seen (pushOf (t .receiver) (t .store) f field)
 stepOf t (join f n) = seen (joinOf (t .receiver) (t .store) f n)
 stepOf t reset = record { answer = none; next = state (resetOf (t .receiver)) (t .store) }
 
--- "Each `push`, `join` and reset gets the state and the store as the call before left them": all answers, and what is left
+-- The answers to a list of calls. "Each `push`, `join` and reset gets the state and the store as the call before left them, and nobody else
+-- writes them meanwhile."
 unfoldable pub runOf : State → List Call → List (Option Heard)
 runOf t [] = []
 runOf t (c ∷ cs) = stepOf t c .answer ∷ runOf (stepOf t c .next) cs
 
+-- The state that a list of calls leaves.
 unfoldable pub leftBy : State → List Call → State
 leftBy t [] = t
 leftBy t (c ∷ cs) = leftBy (stepOf t c .next) cs
 
 -- "A push or join is idle where it is refused, its frame has another length, or n is 0 or beyond f". (With an accepted mask and a store of
--- 5,000 bytes it is refused only for its field.)
+-- 5,000 bytes it is refused only for its field: `never-refused` in proofs/Idle.)
 abbrev pub idle : Call → Bool
 idle (push f field) =
     not (fieldOk field)
@@ -64,18 +70,19 @@ ending (push f field) = not (idle (push f field)) && ltb (getD f 0 0) 0x80
 ending (join f n) = not (idle (join f n)) && ltb (getD f 0 0) 0x80
 ending reset = true
 
+-- Whether one of the calls is an ending.
 unfoldable pub anyEnding : List Call → Bool
 anyEnding [] = false
 anyEnding (c ∷ cs) = ending c || anyEnding cs
 
--- "the calls since the last ending", or all of them
+-- "the calls since the last ending before it, or since the start": what comes after the last ending, or all where there is none.
 unfoldable pub since : List Call → List Call
 since [] = []
 since (c ∷ cs) = pick (anyEnding cs) (since cs) (pick (ending c) cs (c ∷ cs))
 
--- the answers to the calls `cs` that come after `past`, each "the one that a fresh receiver gives to the same call after only the calls
--- since the last ending before it, or since the start", with a store of its own for each
-unfoldable pub freshly : ℕ → (List Call → List ℕ) → List Call → List Call → List (Option Heard)
-freshly mask stores past [] = []
-freshly mask stores past (c ∷ cs) =
-    stepOf (leftBy (state (freshOf mask) (stores past)) (since past)) c .answer ∷ freshly mask stores (past ++ (c ∷ [])) cs
+-- The answers to the calls `cs` that come after the calls `past`, each "the one that a fresh receiver gives to the same call after only the
+-- calls since the last ending before it, or since the start". The fresh receiver is `fresh`, with a store of its own for each call.
+unfoldable pub freshly : Reassembler → (List Call → List ℕ) → List Call → List Call → List (Option Heard)
+freshly fresh stores past [] = []
+freshly fresh stores past (c ∷ cs) =
+    stepOf (leftBy (state fresh (stores past)) (since past)) c .answer ∷ freshly fresh stores (past ++ (c ∷ [])) cs

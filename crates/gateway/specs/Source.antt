@@ -4,13 +4,14 @@ use mathlib.Core.Path.{_≡_}
 use mathlib.Core.List.{List, [], _∷_}
 use mathlib.Core.Option.{Option, none, some}
 use Prim.Native.Nat.{ℕ}
-use Rattle.refusals.specs.Outcome.{Outcome, answer}
+use Rattle.refusals.specs.Outcome.{answer}
 use Rattle.receiver.specs.Join.{Heard, refused, dropped, more, done}
-use Rattle.kiss.specs.Codec.{Decoded, codeOf}
+use Rattle.kiss.specs.Codec.{codeOf}
 use Rattle.kiss.specs.Back.{Codable}
 use Rattle.gateway.specs.Script.{Sending}
 
--- "coded from generic bytes or a plain AX.25 frame"
+-- "Each is coded from generic bytes or a plain AX.25 frame as in 01": the command, the original bytes, and that the coder answers them with
+-- this message and a type.
 pub record CodedFrom (message : List ℕ) : Type 0 where
   pub command : ℕ
   pub original : List ℕ
@@ -18,11 +19,7 @@ pub record CodedFrom (message : List ℕ) : Type 0 where
   pub typ : ℕ
   pub coded : codeOf command original ≡ answer (record { bytes = message; typ = typ })
 
-abbrev pub AllCoded : List Sending → Type 0
-AllCoded [] = Unit {0}
-AllCoded (x ∷ xs) = CodedFrom (x .message) × AllCoded xs
-
--- "What is handed out": the messages among the answers
+-- "What is handed out": the bytes of each Done among the answers, in order.
 abbrev pub handed : List (Option Heard) → List (List ℕ)
 handed [] = []
 handed (some (done n b) ∷ rest) = b ∷ handed rest
@@ -31,11 +28,7 @@ handed (some dropped ∷ rest) = handed rest
 handed (some more ∷ rest) = handed rest
 handed (none ∷ rest) = handed rest
 
+-- The messages that are sent, in order.
 abbrev pub messagesOf : List Sending → List (List ℕ)
 messagesOf [] = []
 messagesOf (x ∷ xs) = x .message ∷ messagesOf xs
-
--- "the original bytes" with their commands
-abbrev pub originals : (xs : List Sending) → AllCoded xs → List (Outcome Decoded)
-originals [] c = []
-originals (x ∷ xs) c = answer (record { command = c .0 .command; bytes = c .0 .original }) ∷ originals xs (c .1)

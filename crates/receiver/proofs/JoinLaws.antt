@@ -3,7 +3,7 @@
 use mathlib.Core.Path.{_≡_, ap}
 use mathlib.Core.Bool.{true, false}
 use mathlib.Core.List.{List}
-use Prim.Native.Nat.{ℕ, zero, suc, _-_, _≤_, _<_}
+use Prim.Native.Nat.{ℕ, zero, suc, _+_, _-_, _≤_, _<_}
 use native.Mathlib.Omega.{arith}
 use lib.Bits.{bitAnd}
 use lib.ListN.{length, getD, take, drop, set, length-set}
@@ -68,21 +68,24 @@ module _ (r : Reassembler) (s : List ℕ) (b : ℕ) where
   module _ (t : List ℕ) where
     pub grow-many : 255 ≤ r .nfrag → growOf r s b t ≡ answered Dropped (emptied r (leb 0x80 b)) s
     unfolding growOf pick
-    grow-many h = simp (le-leb _ _ h)
+    grow-many h =
+        by-le (baseOf (r .held) + length t) 5000
+        (λ l. simp (le-ltb 5000 (baseOf (r .held) + length t) l, le-leb _ _ h))
+        (λ l. simp (lt-ltb 5000 (baseOf (r .held) + length t) l))
 
-    pub grow-long : r .nfrag < 255 → 5000 - baseOf (r .held) < length t → growOf r s b t ≡ answered Dropped (emptied r (leb 0x80 b)) s
+    pub grow-long : 5000 < baseOf (r .held) + length t → growOf r s b t ≡ answered Dropped (emptied r (leb 0x80 b)) s
     unfolding growOf pick
-    grow-long h k = simp (lt-leb _ _ h, lt-ltb _ _ k)
+    grow-long k = simp (lt-ltb 5000 (baseOf (r .held) + length t) k)
 
-    pub grow-more : r .nfrag < 255 → length t ≤ 5000 - baseOf (r .held) → 0x80 ≤ b
+    pub grow-more : r .nfrag < 255 → baseOf (r .held) + length t ≤ 5000 → 0x80 ≤ b
         → growOf r s b t ≡ answered More (grown r (length t)) (sets (headed (r .held) s b) (baseOf (r .held)) t)
     unfolding growOf pick
-    grow-more h k m = simp (lt-leb _ _ h, le-ltb _ _ k, le-leb _ _ m)
+    grow-more h k m = simp (le-ltb 5000 (baseOf (r .held) + length t) k, lt-leb _ _ h, le-leb _ _ m)
 
-    pub grow-last : r .nfrag < 255 → length t ≤ 5000 - baseOf (r .held) → b < 0x80
+    pub grow-last : r .nfrag < 255 → baseOf (r .held) + length t ≤ 5000 → b < 0x80
         → growOf r s b t ≡ finishOf (grown r (length t)) (sets (headed (r .held) s b) (baseOf (r .held)) t) b
     unfolding growOf pick
-    grow-last h k m = simp (lt-leb _ _ h, le-ltb _ _ k, lt-leb _ _ m)
+    grow-last h k m = simp (le-ltb 5000 (baseOf (r .held) + length t) k, lt-leb _ _ h, lt-leb _ _ m)
 
 -- ---- a fragment
 

@@ -37,9 +37,11 @@ pub record After : Type 0 where
   pub receiver : Reassembler
   pub store : List ℕ
 
+-- what the call returned, with the store as it leaves it
 abbrev pub after : Pushed → List ℕ → After
 after p store = record { heard = heardOf (p .answer) store; receiver = p .receiver; store = store }
 
+-- an answer, with the receiver and the store that are left
 abbrev pub answered : Push → Reassembler → List ℕ → After
 answered a r store = record { heard = heardOf a store; receiver = r; store = store }
 
@@ -87,7 +89,7 @@ grown r n = record { held = baseOf (r .held) + n; nfrag = r .nfrag + 1; count = 
 -- append and count. More: answer More."
 unfoldable pub growOf : Reassembler → List ℕ → ℕ → List ℕ → After
 growOf r store first tail =
-    pick (leb 255 (r .nfrag) || ltb (5000 - baseOf (r .held)) (length tail))
+    pick (ltb 5000 (baseOf (r .held) + length tail) || leb 255 (r .nfrag))
     (answered Dropped (emptied r (leb 0x80 first)) store)
     (pick (leb 0x80 first)
     (answered More (grown r (length tail)) (sets (headed (r .held) store first) (baseOf (r .held)) tail))

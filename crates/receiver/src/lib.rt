@@ -38,7 +38,7 @@ pub enum Fresh {
     Ready(Reassembler),
 }
 
-// Where a tail goes: behind what is held, or behind the first byte.
+// Where a tail goes: after what is held, or after the first byte.
 fn base_of(held: usize) -> usize
     ensures { λ r. ⌜ r ≡ baseOf held ⌝ }
 {
@@ -107,14 +107,15 @@ impl Reassembler {
         Fresh::Refused(refusals::MASK)
     }
 
-    // Nothing held, fragments 0, no overflow.
+    // Nothing held, fragments 0, no overflow. Check byte and mask are kept.
     pub fn reset(self) -> Reassembler
         ensures { λ r. ⌜ r ≡ resetOf self ⌝ }
     {
+        let check = self.count;
         Reassembler {
             held: 0,
             nfrag: 0,
-            count: self.count,
+            count: check,
             crc_mask: self.crc_mask,
             overflow: false,
         }
@@ -155,7 +156,7 @@ impl Reassembler {
         }
     }
 
-    // A fragment's tail goes behind what is held, if there is room.
+    // A fragment's tail goes after what is held, if there is room.
     fn grow(self, store: &mut [u8], first: u8, tail: &[u8]) -> Pushed
         requires { ⌜ (length (now store) ≡ 5000) × ((self .held ≤ 5000) × (self .nfrag ≤ 255)) ⌝ }
         ensures { λ r. ⌜ after r (now (store .exit)) ≡ growOf self (now (store .entry)) first (now (tail .entry)) ⌝ }

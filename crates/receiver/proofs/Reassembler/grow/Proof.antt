@@ -2,7 +2,7 @@
 -- Assumes nothing.
 use borrow.Author.Needs.{needs}
 use mathlib.Core.Path.{sym, _∙_}
-use Prim.Native.Nat.{_≤_, _<_}
+use Prim.Native.Nat.{ℕ, _+_, _-_, _≤_, _<_}
 use native.Mathlib.Omega.{arith}
 use Rattle.receiver.proofs.JoinLaws.{grow-many, grow-long, grow-more, grow-last, base-le, base-pos}
 use Rattle.receiver.proofs.Reassembler.grow.Statement.{statement}
@@ -11,6 +11,13 @@ use Rattle.receiver.proofs.Reassembler.grow.Tie as tie
 -- what stands before the tail fits the store
 base-fits : (c : tie.After-base-of) → c .base-of .result ≤ 5000
 base-fits c = rw (c .base-of .ensures) (base-le (c .before .before .before .args .self .held) 5000 (omega arith) (omega arith))
+
+-- the test by what is left of the store, as a test of held plus tail
+too-long : (base n : ℕ) → base ≤ 5000 → 5000 - base < n → 5000 < base + n
+too-long base n l h = omega arith
+
+long-enough : (base n : ℕ) → base ≤ 5000 → n ≤ 5000 - base → base + n ≤ 5000
+long-enough base n l h = omega arith
 
 base-of-requires : tie.Need-base-of-requires
 base-of-requires c κs = search needs
@@ -22,7 +29,9 @@ sub-if2 : tie.Need-sub-if2
 sub-if2 c = base-fits (c .before)
 
 returns-2 : tie.Need-returns-2
-returns-2 c = sym (grow-long _ _ _ _ (c .before .if1 .left) (rw (c .before .before .base-of .ensures) at (c .if2 .taken)))
+returns-2 c =
+    let a = c .before .before in
+    sym (grow-long _ _ _ _ (rw (a .base-of .ensures) at (too-long _ _ (base-fits a) (c .if2 .taken))))
 
 head-requires : tie.Need-head-requires
 head-requires c κs = search needs
@@ -45,7 +54,7 @@ returns-3 c =
     let e2 = h .before .before in
     let a = e2 .before .before in
     rw (p .copy .ensures .stored, p .copy .ensures .next-is, h .head .ensures, a .base-of .ensures)
-    (sym (grow-more _ _ _ _ (e2 .before .if1 .left) (rw (a .base-of .ensures) at (e2 .if2 .left)) (c .if3 .taken)))
+    (sym (grow-more _ _ _ _ (e2 .before .if1 .left) (rw (a .base-of .ensures) at (long-enough _ _ (base-fits a) (e2 .if2 .left))) (c .if3 .taken)))
 
 finish-requires : tie.Need-finish-requires
 finish-requires c κs =
@@ -68,7 +77,7 @@ returns-4 c =
     let a = e2 .before .before in
     f .finish .ensures
     ∙ rw (p .copy .ensures .stored, p .copy .ensures .next-is, h .head .ensures, a .base-of .ensures)
-    (sym (grow-last _ _ _ _ (e2 .before .if1 .left) (rw (a .base-of .ensures) at (e2 .if2 .left)) (f .before .before .if3 .left)))
+    (sym (grow-last _ _ _ _ (e2 .before .if1 .left) (rw (a .base-of .ensures) at (long-enough _ _ (base-fits a) (e2 .if2 .left))) (f .before .before .if3 .left)))
 
 pub grow-spec : {M : Type 1} → statement M
 grow-spec =
