@@ -19,7 +19,6 @@ use contract.Monad.{fact}
 use contract.Running.{Running, tables, tablesOf}
 use types.Kit.{Given, ‵, _⊛_, given, _$_, _∵_, !, qed, move, drop, use1, split, learn, frame, done}
 use denote.Builtin.{u8, usize, SliceRefOf}
-use denote.Enum.Laws as EL
 use denote.Exit.{yes}
 use denote.Laws.{Is}
 use denote.Plain.{uint-lawful}
@@ -38,9 +37,9 @@ use denote.Triple.Statement.{Contract, Triple}
 use denote.Triple.Table.{entered, cited}
 use Rattle.laws.specs.Bits.{unpack}
 use Rattle.bits.specs.Read.{takeBits, takeText, taken}
+use Rattle.bits.specs.declared.read.Taken.{Taken}
 use Rattle.bits.specs.declared.reader.Reader.{Reader}
 use Rattle.bits.proofs.read.Taken as S
-use Rattle.bits.proofs.read.Taken.Laws as S′
 use Rattle.bits.proofs.reader.Reader as T
 use Rattle.bits.proofs.reader.Reader.Laws as T′
 
@@ -85,9 +84,6 @@ pub record Answer : Type 2 where
   pub mir : Ty
   pub typed : {M : Type 1} (𝓤 : URA M) (H : Heap 𝓤) (A : Atoms 𝓤) → Given 𝓤 H A → (r : row .Denot) (u : Val) → Is row r (u ∷ []) → Holds (hasTy mir u) × WT u
 
-abbrev pub Takens : Answer
-Takens = record { row = S.the-row; mir = S′.mir; typed = λ 𝓤 H A W r u is. EL.lawful S.the-type S′.the-laws 𝓤 H A W tt .typed r _ is .0 }
-
 abbrev pub Counts : Answer
 Counts = record { row = usize; mir = tyInt w64; typed = λ 𝓤 H A W r u is. uint-lawful 𝓤 H A W w64 .typed r _ is .0 }
 
@@ -97,20 +93,16 @@ pub record Reading : Type 2 where
   pub Asks : List ℕ → ℕ → Type 0
   pub found : List ℕ → ℕ → answer .row .Denot
 
-pub record Reading-n : Type 2 where
-  pub answer : Answer
+pub record Reading-n : Type 1 where
   pub Asks : List ℕ → ℕ → ℕ → Type 0
-  pub found : List ℕ → ℕ → ℕ → answer .row .Denot
+  pub found : List ℕ → ℕ → ℕ → Taken
 
 -- the readings of `read`
 abbrev pub reads-take : Reading-n
-reads-take = record { answer = Takens; Asks = λ bytes at n. (n ≤ 64) × (length bytes < 2 ^ 60); found = λ bytes at n. taken (at + n) (takeBits n (dropped at (unpack bytes))) }
+reads-take = record { Asks = λ bytes at n. (n ≤ 64) × (length bytes < 2 ^ 60); found = λ bytes at n. taken (at + n) (takeBits n (dropped at (unpack bytes))) }
 
 abbrev pub reads-text : Reading-n
-reads-text = record { answer = Takens; Asks = λ bytes at n. (n ≤ 16) × (length bytes < 2 ^ 60); found = λ bytes at n. taken (at + n) (takeText n (dropped at (unpack bytes))) }
-
-abbrev pub reads-bit : Reading
-reads-bit = record { answer = Takens; Asks = λ bytes at. length bytes < 2 ^ 60; found = λ bytes at. taken (at + 1) (takeBits 1 (dropped at (unpack bytes))) }
+reads-text = record { Asks = λ bytes at n. (n ≤ 16) × (length bytes < 2 ^ 60); found = λ bytes at n. taken (at + n) (takeText n (dropped at (unpack bytes))) }
 
 abbrev pub reads-remaining : Reading
 reads-remaining = record { answer = Counts; Asks = λ bytes at. length bytes < 2 ^ 60; found = λ bytes at. length bytes * 8 - at }
@@ -143,26 +135,17 @@ module _ (w : Reading) where
 module _ (w : Reading-n) where
   abbrev pub at-ended-n : Ended
   at-ended-n = record {
-    signature = record { lifetimes = 1; outlives = []; params = SliceRefOf (0 ∷ []) tt (plain (λ _. u8)) (λ _. tt) ∷ plain (λ _. usize) ∷ plain (λ _. usize) ∷ []; result = plain (λ _. w .answer .row) };
+    signature = record { lifetimes = 1; outlives = []; params = SliceRefOf (0 ∷ []) tt (plain (λ _. u8)) (λ _. tt) ∷ plain (λ _. usize) ∷ plain (λ _. usize) ∷ []; result = plain (λ _. S.the-row) };
     kept = (yes, (yes, (yes, tt)));
   }
-
-  abbrev pub self-ended-n : Ended
-  self-ended-n = record { signature = record { lifetimes = 1; outlives = []; params = plain B ∷ plain (λ _. usize) ∷ []; result = plain (λ _. w .answer .row) }; kept = (yes, (yes, tt)) }
 
   module _ {M : Type 1} (𝓤 : URA M) where
     abbrev pub at-says-n : Clauses 𝓤 at-ended-n
     at-says-n κs x = record { ghost = Unit {0}; requires = λ _. fact 𝓤 (w .Asks (now (x .0)) (x .1 .0) (x .1 .1 .0)); ensures = λ _ r _. fact 𝓤 (r ≡ w .found (now (x .0)) (x .1 .0) (x .1 .1 .0)) }
 
-    abbrev pub self-says-n : Clauses 𝓤 self-ended-n
-    self-says-n κs x = record { ghost = Unit {0}; requires = λ _. fact 𝓤 (w .Asks (now (x .0 .bytes)) (x .0 .at) (x .1 .0)); ensures = λ _ r _. fact 𝓤 (r ≡ w .found (now (x .0 .bytes)) (x .0 .at) (x .1 .0)) }
-
     module _ (H : Heap 𝓤) (A : Atoms 𝓤) where
       abbrev pub At-n : Contract 𝓤
       At-n = tripleOf 𝓤 H A (at-ended-n .signature) (closing 𝓤 H A at-ended-n at-says-n)
-
-      abbrev pub Self-n : Contract 𝓤
-      Self-n = tripleOf 𝓤 H A (self-ended-n .signature) (closing 𝓤 H A self-ended-n self-says-n)
 
 -- of what a callee ensures, a fact alone: what is said of last values is dropped
 module _ {M : Type 1} (𝓤 : URA M) (H : Heap 𝓤) (A : Atoms 𝓤) (T : Ended) (κs : Lfts (T .signature .lifetimes)) (x : Args (T .signature) κs) where

@@ -11,6 +11,7 @@ use Rattle.laws.specs.Pick.{pick}
 use Rattle.bits.specs.Val.{valOf}
 use Rattle.bits.specs.declared.read.Taken.{Taken}
 use Rattle.bits.specs.declared.read.Taken.the-variants.{Bits, Short}
+use Rattle.bits.specs.declared.reader.Reader.{Reader}
 
 -- `take`: the first n bits as a number, and what is left; nothing where there are fewer
 unfoldable pub takeBits : ℕ → List Bool → Option (ℕ × List Bool)
@@ -33,3 +34,12 @@ takeText n b = pick (leb n (length b)) (some (valOf (map letter (take n b)), dro
 unfoldable pub taken : ℕ → Option (ℕ × List Bool) → Taken
 taken next none = Short
 taken next (some p) = Bits (p .0) next
+
+-- the position behind an answer: the next one, or the same where there are too few bits
+unfoldable pub behindOf : Taken → ℕ → ℕ
+behindOf (Bits v next) at = next
+behindOf Short at = at
+
+-- the reader behind an answer
+abbrev pub moved : Reader → Taken → Reader
+moved d t = record { bytes = d .bytes; at = behindOf t (d .at) }

@@ -8,7 +8,7 @@ ghost use lib.Seq.{sets};
 ghost use Rattle.laws.specs.Bits.{odd, num, bitsOf, valueOf, packN, unpack};
 ghost use Rattle.laws.specs.Digits.{numberOf};
 ghost use Rattle.laws.specs.Wrote.{Wrote};
-ghost use Rattle.bits.specs.Read.{takeBits, takeText, numbers, letter, taken};
+ghost use Rattle.bits.specs.Read.{takeBits, takeText, numbers, letter, taken, behindOf};
 ghost use Rattle.bits.specs.Text7.{endOf, text7Of, text7Next, text7Left};
 use bits_write::byte;
 use bits_write::least;
@@ -28,6 +28,16 @@ pub enum Taken {
 pub enum Got {
     Next(usize),
     Nothing,
+}
+
+// The position behind what was read from a position on: the same where there were too few bits.
+pub(crate) fn behind(t: Taken, at: usize) -> usize
+    ensures { λ r. ⌜ r ≡ behindOf t at ⌝ }
+{
+    match t {
+        Taken::Bits(_, p) => p,
+        Taken::Short => at,
+    }
 }
 
 // How many bits there are from a position on.
@@ -98,14 +108,6 @@ pub(crate) fn take(s: &[u8], at: usize, n: usize) -> Taken
         return Taken::Bits(0, at);
     }
     Taken::Bits(value(s, at, n), at + n)
-}
-
-// The next bit, 0 or 1.
-pub(crate) fn bit(s: &[u8], at: usize) -> Taken
-    requires { ⌜ length (now s) < 2 ^ 60 ⌝ }
-    ensures { λ r. ⌜ r ≡ taken (at + 1) (takeBits 1 (drop at (unpack (now (s .entry))))) ⌝ }
-{
-    take(s, at, 1)
 }
 
 // The n bits from a position on, as decimal digits.
