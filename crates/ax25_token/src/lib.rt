@@ -15,6 +15,8 @@ use bits::read::Taken;
 use bits::reader::bit_at;
 use bits::reader::take_at;
 use bits::reader::text_at;
+use bits::reader::Reader;
+use bits::reader::Two;
 
 // A call: its text is the first len bytes.
 pub struct Call {
@@ -176,6 +178,16 @@ fn wide_number(s: &[u8], at: usize, w: usize) -> Taken
     ensures { λ r. ⌜ r ≡ taken (at + w) (wideNumber w (drop at (unpack (now (s .entry))))) ⌝ }
 {
     text_at(s, at, w)
+}
+
+// The bit of a digit and the w bits after it: one reader takes both.
+fn pair_at(s: &[u8], at: usize, w: usize) -> Two
+    requires { ⌜ (w ≤ 2) × (length (now s) < 2 ^ 60) ⌝ }
+{
+    let mut r = Reader { bytes: s, at };
+    let first = r.bit();
+    let second = r.text(w);
+    Two { first, second }
 }
 
 // A digit, 1 or 2, and a number of w bits.

@@ -1,5 +1,5 @@
--- The walk of `Reader`'s methods that move the position: the struct is lent by `&mut`, a function of `read` is called on the slice and the position, and the position becomes what `read::behind` makes of the answer.
--- All that a walk knows of the two callees is their contracts. The borrow is opened, what the bytes own goes to the callee, the position is stored beside them, and the borrow is closed at the reader behind the answer.
+-- The walk of `Reader`'s methods that move the position: the struct is lent by `&mut`, a function of `read` is called on the slice and the position, and the position becomes what `read::after` makes of the answer.
+-- All that a walk knows of the two callees is their contracts. The borrow is opened, what the bytes own goes to the callee, the position is stored beside them, and the borrow is closed at the reader after the answer.
 -- Assumes nothing.
 use mathlib.Core.Path.{_≡_, refl, ap}
 use Prim.Native.Nat.{ℕ, _^_, _<_}
@@ -43,10 +43,10 @@ use denote.Triple.Table.{entered, cited}
 use denote.Triple.Walked.{says, needs, Stays, stay-ref, stay-none, walkOf, goes-ref, goes-none, Walks, ends-at, walked, walk-meets}
 use denote.Exit.{yes}
 use denote.Triple.Clauses.{Ended, Clauses, closing, ensured}
-use Rattle.bits.specs.Read.{behindOf, moved}
+use Rattle.bits.specs.Read.{afterOf, moved}
 use Rattle.bits.specs.declared.read.Taken.{Taken}
 use Rattle.bits.specs.declared.reader.Reader.{Reader}
-use Rattle.bits.proofs.ReaderWays.{v, Own, Bytes, lent, Reading-n, at-ended-n, at-says-n, At-n, clause}
+use Rattle.bits.proofs.ReaderWays.{v, Own, Bytes, lent, Reading-t, Reading-n, at-ended-n, at-says-n, At-n, clause}
 use Rattle.bits.proofs.read.Taken as S
 use Rattle.bits.proofs.read.Taken.Laws as S′
 use Rattle.bits.proofs.reader.Reader as T
@@ -66,16 +66,34 @@ lent-slot = plain (λ κs. T.the-row (namedLft 2 1 tt κs))
 abbrev pub ref-ty : mir.Syntax.Lifetime → mir.Syntax.Lifetime → Ty
 ref-ty s a = tyRef s mut (tyNamed (T.struct (α []) .name, a ∷ []))
 
--- ---- the contract of `read::behind`
-abbrev behind-ended : Ended
-behind-ended = record { signature = record { lifetimes = 0; outlives = []; params = plain (λ _. S.the-row) ∷ plain (λ _. usize) ∷ []; result = plain (λ _. usize) }; kept = (yes, (yes, tt)) }
+-- ---- the contract of `read::after`
+abbrev after-ended : Ended
+after-ended = record { signature = record { lifetimes = 0; outlives = []; params = plain (λ _. S.the-row) ∷ plain (λ _. usize) ∷ []; result = plain (λ _. usize) }; kept = (yes, (yes, tt)) }
 
 module _ {M : Type 1} (𝓤 : URA M) where
-  abbrev behind-says : Clauses 𝓤 behind-ended
-  behind-says κs x = record { ghost = Unit {0}; requires = λ _. emp 𝓤; ensures = λ _ r _. fact 𝓤 (r ≡ behindOf (x .0) (x .1 .0)) }
+  abbrev after-says : Clauses 𝓤 after-ended
+  after-says κs x = record { ghost = Unit {0}; requires = λ _. emp 𝓤; ensures = λ _ r _. fact 𝓤 (r ≡ afterOf (x .0) (x .1 .0)) }
 
-  abbrev pub Behind : (H : Heap 𝓤) (A : Atoms 𝓤) → Contract 𝓤
-  Behind H A = tripleOf 𝓤 H A (behind-ended .signature) (closing 𝓤 H A behind-ended behind-says)
+  abbrev pub After : (H : Heap 𝓤) (A : Atoms 𝓤) → Contract 𝓤
+  After H A = tripleOf 𝓤 H A (after-ended .signature) (closing 𝓤 H A after-ended after-says)
+
+-- ---- the contract of a method
+abbrev pub mut-ended : Ended
+mut-ended = record {
+  signature = record { lifetimes = 2; outlives = record { long = 1; long-ok = tt; short = 0; short-ok = tt } ∷ []; params = RefMutOf (0 ∷ []) tt lent-slot (λ _. tt) ∷ []; result = plain (λ _. S.the-row) };
+  kept = (yes, tt);
+}
+
+module _ (w : Reading-t) {M : Type 1} (𝓤 : URA M) where
+  abbrev pub mut-says : Clauses 𝓤 mut-ended
+  mut-says κs x = record {
+    ghost = Unit {0};
+    requires = λ _. fact 𝓤 (w .Asks (now (now (x .0) .bytes)) (now (x .0) .at));
+    ensures = λ _ r e. fact 𝓤 ((r ≡ w .found (now (now (x .0) .bytes)) (now (x .0) .at)) × (now (e .0) ≡ moved (now (x .0)) r));
+  }
+
+  abbrev pub Mut : (H : Heap 𝓤) (A : Atoms 𝓤) → Contract 𝓤
+  Mut H A = tripleOf 𝓤 H A (mut-ended .signature) (closing 𝓤 H A mut-ended mut-says)
 
 -- ---- the contract of a method with a number
 abbrev pub mut-ended-n : Ended
@@ -98,7 +116,7 @@ module _ (w : Reading-n) {M : Type 1} (𝓤 : URA M) where
   abbrev pub Mut-n : (H : Heap 𝓤) (A : Atoms 𝓤) → Contract 𝓤
   Mut-n H A = tripleOf 𝓤 H A (mut-ended-n .signature) (closing 𝓤 H A mut-ended-n mut-says-n)
 
--- the MIR of a method with a number that calls j, and `read::behind` as i
+-- the MIR of a method with a number that calls j, and `read::after` as i
 abbrev code-n : Name → Name → Fn
 code-n j i = record {
   lifetimes = 2;
@@ -142,20 +160,20 @@ module _ (w : Reading-n) {M : Type 1} (𝓤 : URA M) (H : Heap 𝓤) (A : Atoms 
   asked : ent 𝓤 (onEntry 𝓤 H A (at-ended-n w .signature) (κ′, tt) (q′, tt) (d .bytes, (d .at, (n, tt))) passed) (At-n w 𝓤 H A .pre to)
   asked = qed W ((‵ (flft κ′ q′) ⊛ ‵ ftrue) ∷ ‵ (owns (ShrSlice (named 0) κ′ u8 ∷ usize ∷ usize ∷ []) (d .bytes, (d .at, (n, tt))) passed) ∷ []) ∵ says ! small $ frame ! $ done !
 
-  abbrev passed-on : Val → Vals (behind-ended .signature) tt
+  abbrev passed-on : Val → Vals (after-ended .signature) tt
   passed-on u = (u ∷ [], (vint w64 (d .at) ∷ [], tt))
 
-  abbrev to-behind : Taken → Val → Behind 𝓤 H A .Ghost
-  to-behind r u = ((tt, tt, tt, (r, (d .at, tt)), passed-on u), tt)
+  abbrev to-after : Taken → Val → After 𝓤 H A .Ghost
+  to-after r u = ((tt, tt, tt, (r, (d .at, tt)), passed-on u), tt)
 
-  asked-behind : (r : Taken) (u : Val) → ent 𝓤 (onEntry 𝓤 H A (behind-ended .signature) tt tt (r, (d .at, tt)) (passed-on u)) (Behind 𝓤 H A .pre (to-behind r u))
-  asked-behind r u = qed W (‵ ftrue ∷ ‵ (owns (S.the-row ∷ usize ∷ []) (r, (d .at, tt)) (passed-on u)) ∷ []) ∵ join ! $ frame ! $ done !
+  asked-after : (r : Taken) (u : Val) → ent 𝓤 (onEntry 𝓤 H A (after-ended .signature) tt tt (r, (d .at, tt)) (passed-on u)) (After 𝓤 H A .pre (to-after r u))
+  asked-after r u = qed W (‵ ftrue ∷ ‵ (owns (S.the-row ∷ usize ∷ []) (r, (d .at, tt)) (passed-on u)) ∷ []) ∵ join ! $ frame ! $ done !
 
   -- what the bytes own is kept, and the position's facts are made anew
   again : (p : ℕ) → p < 2 ^ 64 → ent 𝓤 (sem 𝓤 H A (Own κ′ d)) (sem 𝓤 H A (B κ′ .own (at p) (T′.lowered (at p) ∷ [])))
   again p fits = qed W (‵ (B κ′ .own d (T′.lowered d ∷ [])) ∷ []) ∵ owned ! usize (Is usize) (uint-makes 𝓤 H A W w64) p _ (refl, fits) $ move ! (1 ∷ 0 ∷ []) $ by ! (own-put 𝓤 H A W (T.the-type (α κ′)) (T′.the-laws (α κ′)) 1 (d .bytes, (d .at, tt)) p (T′.lowered d))
 
-  exits : (r : Taken) (u : Val) (p : ℕ) → r ≡ told → p ≡ behindOf r (d .at)
+  exits : (r : Taken) (u : Val) (p : ℕ) → r ≡ told → p ≡ afterOf r (d .at)
       → ent 𝓤 (⋆ 𝓤 H A (‵ (fobs γ (B κ′ .coded .code (at p))) ∷ ‵ (fbor κ (Body (mem (B κ′)) b o γ)) ∷ ‵ (flft κ q) ∷ ‵ (S.the-row .own r (u ∷ [])) ∷ (‵ (flft κ′ q′) ⊛ ‵ ftrue) ∷ [])) (Post u)
   exits r u p e e′ =
       qed W (‵ (fobs γ (B κ′ .coded .code (at p))) ∷ ‵ (fbor κ (Body (mem (B κ′)) b o γ)) ∷ ‵ (flft κ q) ∷ ‵ (S.the-row .own r (u ∷ [])) ∷ (‵ (flft κ′ q′) ⊛ ‵ ftrue) ∷ []) ∵
@@ -163,7 +181,7 @@ module _ (w : Reading-n) {M : Type 1} (𝓤 : URA M) (H : Heap 𝓤) (A : Atoms 
       move ! (2 ∷ 4 ∷ []) $ join ! $ frame ! $ feqI ! (List Val) (vptr b o ∷ []) (vptr b o ∷ []) refl $ fjoin3 ! $
       nothing ! $ owned ! usize (Is usize) (uint-makes 𝓤 H A W w64) n _ (refl, ok) $ fjoin ! $ move ! (1 ∷ 0 ∷ []) $ fjoin ! $ done !
 
-  module _ (j i : Name) (C : Calls 𝓤 H) (Λ : Loops 𝓤 H) (fm : FmC 𝓤 H (W .laws) C) (known : Triple 𝓤 (C j) (At-n w 𝓤 H A)) (known-behind : Triple 𝓤 (C i) (Behind 𝓤 H A)) where
+  module _ (j i : Name) (C : Calls 𝓤 H) (Λ : Loops 𝓤 H) (fm : FmC 𝓤 H (W .laws) C) (known : Triple 𝓤 (C j) (At-n w 𝓤 H A)) (known-after : Triple 𝓤 (C i) (After 𝓤 H A)) where
     walk : ent 𝓤 (onEntry 𝓤 H A (mut-ended-n .signature) (κ, (κ′, tt)) (q, (q′, tt)) x vals) (WpFn 𝓤 H C Λ (code-n j i) (vptr b o ∷ vint w64 n ∷ []) Post)
     walk =
         qed W ((‵ (flft κ q) ⊛ ‵ (flft κ′ q′) ⊛ ‵ ftrue) ∷ ‵ (owns (MutRef (named 0) κ (B κ′) ∷ usize ∷ []) x vals) ∷ []) ∵ enter ! C Λ (code-n j i) (vptr b o ∷ vint w64 n ∷ []) _ $
@@ -185,12 +203,12 @@ module _ (w : Reading-n) {M : Type 1} (𝓤 : URA M) (H : Heap 𝓤) (A : Atoms 
         -- [the answer; 'a's token; what the struct owns; its cell; the open borrow; obs; auth; n's; _6; …; _5; …; _4; …; _3; …; _2; …; _1; …; room for _0; …]
         peeks ! S.the-row (Is S.the-row) (shows 𝓤 H A S.the-row) r (u ∷ []) (λ is.
         land ! (from ! (stop !)) (init ! 12 refl (EL.lawful S.the-type S′.the-laws 𝓤 H A W tt .typed r _ is .0)) $
-        -- the answer is plain: what it owns is made anew for `behind`
+        -- the answer is plain: what it owns is made anew for `after`
         nothing ! $ owned ! usize (Is usize) (uint-makes 𝓤 H A W w64) (d .at) _ (refl, was .1 .1 .1 .0 .1) $ fjoin ! $ owned ! S.the-row (Is S.the-row) (EL.makes S.the-type S′.the-plain 𝓤 H A) r (u ∷ []) is $ fjoin ! $
-        nothing ! $ use2 W (raw (Behind 𝓤 H A .pre (to-behind r u))) (asked-behind r u) $
-        calls-at ! fm (Behind 𝓤 H A) known-behind (to-behind r u) (and-then ! (load ! (from ! (stop !)) (look ! 13 refl)) (and-then ! (load ! (from ! (stop !)) (look ! 15 refl)) (no-more !))) (λ u′.
-        use1 W (later (some (λ (p : ℕ). (‵ ftrue ⊛ ‵ (usize .own p (u′ ∷ []))) ⊛ raw (ensured 𝓤 H A behind-ended (behind-says 𝓤) tt (r, (d .at, tt)) tt p)))) (id⊢ 𝓤 _) $ await ! tt $ pick ! (λ p.
-        split ! $ move ! (1 ∷ []) $ use1 W (raw (fact 𝓤 (p ≡ behindOf r (d .at)))) (clause 𝓤 H A behind-ended tt (r, (d .at, tt)) (p ≡ behindOf r (d .at))) $ heard ! (p ≡ behindOf r (d .at)) (λ e′. split ! $ drop ! $
+        nothing ! $ use2 W (raw (After 𝓤 H A .pre (to-after r u))) (asked-after r u) $
+        calls-at ! fm (After 𝓤 H A) known-after (to-after r u) (and-then ! (load ! (from ! (stop !)) (look ! 13 refl)) (and-then ! (load ! (from ! (stop !)) (look ! 15 refl)) (no-more !))) (λ u′.
+        use1 W (later (some (λ (p : ℕ). (‵ ftrue ⊛ ‵ (usize .own p (u′ ∷ []))) ⊛ raw (ensured 𝓤 H A after-ended (after-says 𝓤) tt (r, (d .at, tt)) tt p)))) (id⊢ 𝓤 _) $ await ! tt $ pick ! (λ p.
+        split ! $ move ! (1 ∷ []) $ use1 W (raw (fact 𝓤 (p ≡ afterOf r (d .at)))) (clause 𝓤 H A after-ended tt (r, (d .at, tt)) (p ≡ afterOf r (d .at))) $ heard ! (p ≡ afterOf r (d .at)) (λ e′. split ! $ drop ! $
         -- [the next position; the answer; 'a's token; what the struct owns; its cell; the open borrow; obs; auth; n's; _6; …; _5; …; _4; …; _3; …; _2; …; _1; …; room for _0; …]
         peeks ! usize (Is usize) (shows 𝓤 H A usize) p (u′ ∷ []) (λ is′.
         land ! (from ! (stop !)) (init ! 9 refl (uint-lawful 𝓤 H A W w64 .typed p _ is′ .0)) $ rewrite ! 9 (λ (z : Val). ‵ (fat fullShare (tyInt w64) l₆ 0 z)) (ap only (is′ .0)) refl $
@@ -204,20 +222,20 @@ module _ (w : Reading-n) {M : Type 1} (𝓤 : URA M) (H : Heap 𝓤) (A : Atoms 
         keep ! (0 ∷ 1 ∷ 2 ∷ 4 ∷ 5 ∷ []) $ by ! (exits r u p e e′))))))))))))))))))
 
 module _ (w : Reading-n) {M : Type 1} (𝓤 : URA M) (H : Heap 𝓤) (A : Atoms 𝓤) (W : Given 𝓤 H A) (j i : Name) where
-  walks : (C : Calls 𝓤 H) (Λ : Loops 𝓤 H) → FmC 𝓤 H (W .laws) C → Triple 𝓤 (C j) (At-n w 𝓤 H A) → Triple 𝓤 (C i) (Behind 𝓤 H A) → Walks 𝓤 H A mut-ended-n stayed-n (WpFn 𝓤 H C Λ (code-n j i)) (mut-says-n w 𝓤)
-  walks C Λ fm known known-behind = walked 𝓤 H A mut-ended-n stayed-n (mut-says-n w 𝓤) (WpFn 𝓤 H C Λ (code-n j i)) (λ κs. (ptr-vals, (uint-vals w64, tt))) (λ κs. (mut-tells (named 0) (κs .0) (B (κs .1 .0)), (uint-tells w64, tt)))
+  walks : (C : Calls 𝓤 H) (Λ : Loops 𝓤 H) → FmC 𝓤 H (W .laws) C → Triple 𝓤 (C j) (At-n w 𝓤 H A) → Triple 𝓤 (C i) (After 𝓤 H A) → Walks 𝓤 H A mut-ended-n stayed-n (WpFn 𝓤 H C Λ (code-n j i)) (mut-says-n w 𝓤)
+  walks C Λ fm known known-after = walked 𝓤 H A mut-ended-n stayed-n (mut-says-n w 𝓤) (WpFn 𝓤 H C Λ (code-n j i)) (λ κs. (ptr-vals, (uint-vals w64, tt))) (λ κs. (mut-tells (named 0) (κs .0) (B (κs .1 .0)), (uint-tells w64, tt)))
       (λ κs qs bounds x g are. needs 𝓤 (w .Asks (now (now (x .0) .bytes)) (now (x .0) .at) (x .1 .0)) _ (λ small.
-      walk w 𝓤 H A W (κs .0) (κs .1 .0) (qs .0) (qs .1 .0) bounds (x .0 .ptr .0) (x .0 .ptr .1) (x .0 .name) (x .0 .now) (x .1 .0) (are .1 .0 .1) small j i C Λ fm known known-behind))
+      walk w 𝓤 H A W (κs .0) (κs .1 .0) (qs .0) (qs .1 .0) bounds (x .0 .ptr .0) (x .0 .ptr .1) (x .0 .name) (x .0 .now) (x .1 .0) (are .1 .0 .1) small j i C Λ fm known known-after))
 
-  meets : (𝓣 : Tables 𝓤 H) → Triple 𝓤 (𝓣 .C j) (At-n w 𝓤 H A) → Triple 𝓤 (𝓣 .C i) (Behind 𝓤 H A) → Triple 𝓤 (WpFn 𝓤 H (𝓣 .C) (𝓣 .Λ) (code-n j i)) (Mut-n w 𝓤 H A)
-  meets 𝓣 known known-behind = walk-meets 𝓤 H A mut-ended-n stayed-n W (goes-ref 𝓤 H A W 2 0 tt lent-slot, (goes-none 𝓤 H A W 2 (λ _. usize) yes (λ κs x f. refl), tt)) (mut-says-n w 𝓤) (WpFn 𝓤 H (𝓣 .C) (𝓣 .Λ) (code-n j i)) (WpFn-mono 𝓤 H (W .laws) 𝓣 (code-n j i))
-      (walks (𝓣 .C) (𝓣 .Λ) (fmOf 𝓤 H (W .laws) 𝓣) known known-behind)
+  meets : (𝓣 : Tables 𝓤 H) → Triple 𝓤 (𝓣 .C j) (At-n w 𝓤 H A) → Triple 𝓤 (𝓣 .C i) (After 𝓤 H A) → Triple 𝓤 (WpFn 𝓤 H (𝓣 .C) (𝓣 .Λ) (code-n j i)) (Mut-n w 𝓤 H A)
+  meets 𝓣 known known-after = walk-meets 𝓤 H A mut-ended-n stayed-n W (goes-ref 𝓤 H A W 2 0 tt lent-slot, (goes-none 𝓤 H A W 2 (λ _. usize) yes (λ κs x f. refl), tt)) (mut-says-n w 𝓤) (WpFn 𝓤 H (𝓣 .C) (𝓣 .Λ) (code-n j i)) (WpFn-mono 𝓤 H (W .laws) 𝓣 (code-n j i))
+      (walks (𝓣 .C) (𝓣 .Λ) (fmOf 𝓤 H (W .laws) 𝓣) known known-after)
 
--- the method k with a number meets its contract where j, the function of `read` that it calls, and i, `read::behind`, meet their own
+-- the method k with a number meets its contract where j, the function of `read` that it calls, and i, `read::after`, meet their own
 module _ (w : Reading-n) {M : Type 1} (𝓤 : URA M) (H : Heap 𝓤) (𝓜 : Model 𝓤 H) (𝓖 : GhostRules 𝓤 H) (𝓡 : Running 𝓤 H 𝓜) (env : Env) where
   pub moves-n : (k j i : Name) (r s : Routine) → Closed 𝓤 H (tables 𝓤 H 𝓜 𝓡 env .C) (tables 𝓤 H 𝓜 𝓡 env .Λ) k (code-n j i)
-      → env j ≡ r → Triple 𝓤 (𝓡 .run r) (At-n w 𝓤 H (𝓖 .A)) → env i ≡ s → Triple 𝓤 (𝓡 .run s) (Behind 𝓤 H (𝓖 .A)) → Triple 𝓤 (𝓡 .run (env k)) (Mut-n w 𝓤 H (𝓖 .A))
+      → env j ≡ r → Triple 𝓤 (𝓡 .run r) (At-n w 𝓤 H (𝓖 .A)) → env i ≡ s → Triple 𝓤 (𝓡 .run s) (After 𝓤 H (𝓖 .A)) → Triple 𝓤 (𝓡 .run (env k)) (Mut-n w 𝓤 H (𝓖 .A))
   unfolding tablesOf
-  moves-n k j i r s unfolded calls met calls-behind met-behind =
+  moves-n k j i r s unfolded calls met calls-after met-after =
       entered 𝓤 H (Mut-n w 𝓤 H (𝓖 .A)) (tables 𝓤 H 𝓜 𝓡 env .C) (tables 𝓤 H 𝓜 𝓡 env .Λ) k (code-n j i) unfolded
-      (meets w 𝓤 H (𝓖 .A) (givenOf 𝓤 H 𝓜 𝓖) j i (tablesOf 𝓤 H 𝓜 (tables 𝓤 H 𝓜 𝓡 env)) (cited 𝓤 H (At-n w 𝓤 H (𝓖 .A)) 𝓜 𝓡 env j r calls met) (cited 𝓤 H (Behind 𝓤 H (𝓖 .A)) 𝓜 𝓡 env i s calls-behind met-behind))
+      (meets w 𝓤 H (𝓖 .A) (givenOf 𝓤 H 𝓜 𝓖) j i (tablesOf 𝓤 H 𝓜 (tables 𝓤 H 𝓜 𝓡 env)) (cited 𝓤 H (At-n w 𝓤 H (𝓖 .A)) 𝓜 𝓡 env j r calls met) (cited 𝓤 H (After 𝓤 H (𝓖 .A)) 𝓜 𝓡 env i s calls-after met-after))

@@ -87,17 +87,24 @@ pub record Answer : Type 2 where
 abbrev pub Counts : Answer
 Counts = record { row = usize; mir = tyInt w64; typed = λ 𝓤 H A W r u is. uint-lawful 𝓤 H A W w64 .typed r _ is .0 }
 
--- what a reading asks of the bytes and the position, and what it finds there; the same with a number more
+-- what a reading asks of the bytes and the position, and what it finds there; the same of one that moves a reader, and of one with a number more
 pub record Reading : Type 2 where
   pub answer : Answer
   pub Asks : List ℕ → ℕ → Type 0
   pub found : List ℕ → ℕ → answer .row .Denot
 
+pub record Reading-t : Type 1 where
+  pub Asks : List ℕ → ℕ → Type 0
+  pub found : List ℕ → ℕ → Taken
+
 pub record Reading-n : Type 1 where
   pub Asks : List ℕ → ℕ → ℕ → Type 0
   pub found : List ℕ → ℕ → ℕ → Taken
 
--- the readings of `read`
+-- the readings of `Reader`
+abbrev pub reads-bit : Reading-t
+reads-bit = record { Asks = λ bytes at. length bytes < 2 ^ 60; found = λ bytes at. taken (at + 1) (takeBits 1 (dropped at (unpack bytes))) }
+
 abbrev pub reads-take : Reading-n
 reads-take = record { Asks = λ bytes at n. (n ≤ 64) × (length bytes < 2 ^ 60); found = λ bytes at n. taken (at + n) (takeBits n (dropped at (unpack bytes))) }
 

@@ -35,11 +35,11 @@ unfoldable pub taken : ℕ → Option (ℕ × List Bool) → Taken
 taken next none = Short
 taken next (some p) = Bits (p .0) next
 
--- the position behind an answer: the next one, or the same where there are too few bits
-unfoldable pub behindOf : Taken → ℕ → ℕ
-behindOf (Bits v next) at = next
-behindOf Short at = at
+-- the position after an answer: the next one, or the same where there are too few bits
+unfoldable pub afterOf : Taken → ℕ → ℕ
+afterOf (Bits v next) at = next
+afterOf Short at = at
 
--- the reader behind an answer
+-- the reader after an answer
 abbrev pub moved : Reader → Taken → Reader
-moved d t = record { bytes = d .bytes; at = behindOf t (d .at) }
+moved d t = record { bytes = d .bytes; at = afterOf t (d .at) }

@@ -8,7 +8,7 @@ ghost use lib.Seq.{sets};
 ghost use Rattle.laws.specs.Bits.{odd, num, bitsOf, valueOf, packN, unpack};
 ghost use Rattle.laws.specs.Digits.{numberOf};
 ghost use Rattle.laws.specs.Wrote.{Wrote};
-ghost use Rattle.bits.specs.Read.{takeBits, takeText, numbers, letter, taken, behindOf};
+ghost use Rattle.bits.specs.Read.{takeBits, takeText, numbers, letter, taken, afterOf};
 ghost use Rattle.bits.specs.Text7.{endOf, text7Of, text7Next, text7Left};
 use bits_write::byte;
 use bits_write::least;
@@ -24,15 +24,15 @@ pub enum Taken {
     Short,
 }
 
-// The next place behind a text that was read, or no bits at all.
+// The next place after a text that was read, or no bits at all.
 pub enum Got {
     Next(usize),
     Nothing,
 }
 
-// The position behind what was read from a position on: the same where there were too few bits.
-pub(crate) fn behind(t: Taken, at: usize) -> usize
-    ensures { λ r. ⌜ r ≡ behindOf t at ⌝ }
+// The position after what was read from a position on: the same where there were too few bits.
+pub(crate) fn after(t: Taken, at: usize) -> usize
+    ensures { λ r. ⌜ r ≡ afterOf t at ⌝ }
 {
     match t {
         Taken::Bits(_, p) => p,

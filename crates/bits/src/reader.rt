@@ -1,10 +1,10 @@
 // A reader that borrows the message bytes and keeps a bit position: `Reader` of the source, over the functions of `read`.
-// `bit`, `take` and `text` move the position behind what they read, and leave it where there are too few bits.
+// `bit`, `take` and `text` move the position after what they read, and leave it where there are too few bits.
 ghost use mathlib.Core.Path.{_≡_};
 ghost use Prim.Native.Nat.{_+_, _-_, _*_, _^_, _≤_, _<_};
 ghost use lib.ListN.{length, drop};
 ghost use Rattle.laws.specs.Bits.{unpack};
-ghost use Rattle.bits.specs.Read.{takeBits, takeText, taken, behindOf, moved};
+ghost use Rattle.bits.specs.Read.{takeBits, takeText, taken, moved};
 ghost use Rattle.bits.specs.Text7.{text7Of, text7Next, text7Left};
 use crate::read;
 use crate::read::Got;
@@ -54,7 +54,7 @@ impl<'a> Reader<'a> {
     {
         let at = self.at;
         let t = read::take(self.bytes, at, n);
-        self.at = read::behind(t, at);
+        self.at = read::after(t, at);
         t
     }
 
@@ -66,7 +66,7 @@ impl<'a> Reader<'a> {
     {
         let at = self.at;
         let t = read::text(self.bytes, at, n);
-        self.at = read::behind(t, at);
+        self.at = read::after(t, at);
         t
     }
 
@@ -120,18 +120,6 @@ pub fn text_at(s: &[u8], at: usize, n: usize) -> Taken
 {
     let mut r = Reader { bytes: s, at };
     r.text(n)
-}
-
-// The n bits from a position on and the m bits behind them, each as a number.
-pub fn two_at(s: &[u8], at: usize, n: usize, m: usize) -> Two
-    requires { ⌜ (n ≤ 64) × (m ≤ 64) × (length (now s) < 2 ^ 60) ⌝ }
-    ensures { λ r. ⌜ (r .first ≡ taken (at + n) (takeBits n (drop at (unpack (now (s .entry))))))
-        × (r .second ≡ taken (behindOf (r .first) at + m) (takeBits m (drop (behindOf (r .first) at) (unpack (now (s .entry)))))) ⌝ }
-{
-    let mut r = Reader { bytes: s, at };
-    let first = r.take(n);
-    let second = r.take(m);
-    Two { first, second }
 }
 
 // The text from a position on, without the pad, written from a place of the output on.

@@ -7,7 +7,7 @@ use Prim.Native.Nat.{ℕ, _+_}
 use lib.ListN.{drop}
 use denote.Ref.{now}
 use Rattle.laws.specs.Bits.{unpack}
-use Rattle.bits.specs.Read.{takeBits, taken, behindOf}
+use Rattle.bits.specs.Read.{takeBits, taken, afterOf}
 use Rattle.bits.specs.declared.read.Taken.{Taken}
 use Rattle.bits.specs.declared.read.Taken.the-variants.{Bits}
 use Rattle.bits.proofs.TakenLaws.{told-short, told-bits}
@@ -18,9 +18,9 @@ use Rattle.ax25_decode.proofs.read_aliased.Statement.{statement}
 use Rattle.ax25_decode.proofs.read_aliased.Tie as tie
 
 -- the second reading starts behind the first
-second-at : (t u : Taken) (at v p : ℕ) (b : List Bool) → t ≡ Bits v p → u ≡ taken (behindOf t at + 3) (takeBits 3 (drop (behindOf t at) b)) → u ≡ taken (p + 3) (takeBits 3 (drop p b))
-unfolding behindOf
-second-at t u at v p b e h = h ∙ ap (λ (x : Taken). taken (behindOf x at + 3) (takeBits 3 (drop (behindOf x at) b))) e
+second-at : (t u : Taken) (at v p : ℕ) (b : List Bool) → t ≡ Bits v p → u ≡ taken (afterOf t at + 3) (takeBits 3 (drop (afterOf t at) b)) → u ≡ taken (p + 3) (takeBits 3 (drop p b))
+unfolding afterOf
+second-at t u at v p b e h = h ∙ ap (λ (x : Taken). taken (afterOf x at + 3) (takeBits 3 (drop (afterOf x at) b))) e
 
 two-at-requires : tie.Need-two-at-requires
 two-at-requires c κs = search needs
