@@ -139,7 +139,7 @@ module _ (κ : Lft) (q : Share) (l : ℕ) where
       -- the answer, the tokens and the last reader are the answer and the reader in its local
       took : (told r : Taken) (z : Reader) (y : ℕ × GName) (u : Val) → Told told r z
           → ent 𝓤 (sep 𝓤 (sem 𝓤 H A (S.the-row .own r (u ∷ []))) (sep 𝓤 (tokens y) (sep 𝓤 (sem 𝓤 H A (fres (y .1) (B κ .coded .code z))) (Kept y))))
-              (H .⇛ (ex 𝓤 (λ (r′ : Taken). guard 𝓤 (r′ ≡ told) (sep 𝓤 (sem 𝓤 H A (S.the-row .own r′ (u ∷ []))) (sem 𝓤 H A (Local (moved d r′)))))))
+          (H .⇛ (ex 𝓤 (λ (r′ : Taken). guard 𝓤 (r′ ≡ told) (sep 𝓤 (sem 𝓤 H A (S.the-row .own r′ (u ∷ []))) (sem 𝓤 H A (Local (moved d r′)))))))
       took told r z y u e =
           qed W (‵ (S.the-row .own r (u ∷ [])) ∷ Tokens y ∷ ‵ (fres (y .1) (B κ .coded .code z)) ∷ raw (Kept y) ∷ []) ∵ updating ! $ rewrite ! 2 (λ (z′ : Reader). ‵ (fres (y .1) (B κ .coded .code z′))) (e .1) refl $
           move ! (1 ∷ 2 ∷ 3 ∷ []) $ use3 W (later (‵ (Local (moved d r)))) (back (moved d r) y) $ await ! tt $
