@@ -3,6 +3,9 @@ pub mod ReaderCalls
 pub mod ReaderLocals
 pub mod ReaderMethods
 pub mod ReaderMoves
+pub mod ReaderOutCalls
+pub mod ReaderOutMethods
+pub mod ReaderOutWays
 pub mod ReaderPairs
 pub mod ReaderTurns
 pub mod ReaderWays

@@ -274,7 +274,7 @@ fn words(s: &[u8], at: usize, n: usize, out: &mut [u8], to: usize) -> usize
 }
 
 // The whole bytes from a position on, written from a place of the output on. The next place.
-pub fn bytes(s: &[u8], at: usize, out: &mut [u8], to: usize) -> usize
+pub(crate) fn bytes(s: &[u8], at: usize, out: &mut [u8], to: usize) -> usize
     requires { ⌜ (length (now s) < 2 ^ 60) × (to < 2 ^ 61) ⌝ }
     ensures { λ r. ⌜ Wrote (now (out .entry)) to (packN ((length (now (s .entry)) * 8 - at) / 8) (drop at (unpack (now (s .entry))))) (now (out .exit)) r ⌝ }
 {

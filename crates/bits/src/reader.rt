@@ -1,9 +1,10 @@
 // A reader that borrows the message bytes and keeps a bit position: `Reader` of the source, over the functions of `read`.
 // `bit`, `take` and `text` move the position after what they read, and leave it where there are too few bits.
 ghost use mathlib.Core.Path.{_≡_};
-ghost use Prim.Native.Nat.{_+_, _-_, _*_, _^_, _≤_, _<_};
+ghost use Prim.Native.Nat.{_+_, _-_, _*_, _/_, _^_, _≤_, _<_};
 ghost use lib.ListN.{length, drop};
-ghost use Rattle.laws.specs.Bits.{unpack};
+ghost use Rattle.laws.specs.Bits.{packN, unpack};
+ghost use Rattle.laws.specs.Wrote.{Wrote};
 ghost use Rattle.bits.specs.Read.{takeBits, takeText, taken, moved};
 ghost use Rattle.bits.specs.Text7.{text7Of, text7Next, text7Left};
 use crate::read;
@@ -78,6 +79,14 @@ impl<'a> Reader<'a> {
     {
         read::text7(self.bytes, self.at, out, to)
     }
+
+    // The whole bytes from the position on, written from a place of the output on. The next place.
+    pub fn bytes(self, out: &mut [u8], to: usize) -> usize
+        requires { ⌜ (length (now (self .bytes)) < 2 ^ 60) × (to < 2 ^ 61) ⌝ }
+        ensures { λ r. ⌜ Wrote (now (out .entry)) to (packN ((length (now (self .entry .bytes)) * 8 - self .entry .at) / 8) (drop (self .entry .at) (unpack (now (self .entry .bytes))))) (now (out .exit)) r ⌝ }
+    {
+        read::bytes(self.bytes, self.at, out, to)
+    }
 }
 
 // How many bits a slice has. This function and those below take no reader: who calls them needs no walk by hand.
@@ -94,14 +103,6 @@ pub fn remaining_at(s: &[u8], at: usize) -> usize
     ensures { λ r. ⌜ r ≡ length (now (s .entry)) * 8 - at ⌝ }
 {
     Reader { bytes: s, at }.remaining()
-}
-
-// The bit at a position, 0 or 1.
-pub fn bit_at(s: &[u8], at: usize) -> Taken
-    requires { ⌜ length (now s) < 2 ^ 60 ⌝ }
-    ensures { λ r. ⌜ r ≡ taken (at + 1) (takeBits 1 (drop at (unpack (now (s .entry))))) ⌝ }
-{
-    take_at(s, at, 1)
 }
 
 // The n bits from a position on, as a number.
@@ -129,4 +130,12 @@ pub fn text7_at(s: &[u8], at: usize, out: &mut [u8], to: usize) -> Got
         × (now (out .exit) ≡ text7Left (now (out .entry)) to (text7Of (unpack (now (s .entry))) at)) ⌝ }
 {
     Reader { bytes: s, at }.text7(out, to)
+}
+
+// The whole bytes from a position on, written from a place of the output on. The next place.
+pub fn bytes_at(s: &[u8], at: usize, out: &mut [u8], to: usize) -> usize
+    requires { ⌜ (length (now s) < 2 ^ 60) × (to < 2 ^ 61) ⌝ }
+    ensures { λ r. ⌜ Wrote (now (out .entry)) to (packN ((length (now (s .entry)) * 8 - at) / 8) (drop at (unpack (now (s .entry))))) (now (out .exit)) r ⌝ }
+{
+    Reader { bytes: s, at }.bytes(out, to)
 }
