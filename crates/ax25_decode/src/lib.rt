@@ -8,7 +8,7 @@ ghost use lib.ListN.{length, getD, drop};
 ghost use Rattle.laws.specs.Bits.{odd, unpack};
 ghost use Rattle.laws.specs.Pick.{pick};
 ghost use Rattle.laws.specs.Wrote.{Wrote};
-ghost use Rattle.bits.specs.Read.{takeBits, taken};
+ghost use Rattle.bits.specs.Read.{took, afterOf};
 ghost use Rattle.ax25_token.specs.Token.{readToken};
 ghost use Rattle.ax25_address.specs.Parse.{aliases, aliasCalls};
 ghost use Rattle.ax25_address.specs.Kind.{typeNumber};
@@ -29,6 +29,8 @@ use ax25_token::encode::call_starts;
 use ax25_token::token_decode;
 use bits::read::Got;
 use bits::read::Taken;
+use bits::reader::Reader;
+use bits::reader::Two;
 
 // The next position and the next place, or nothing to read.
 pub enum Read {
@@ -146,7 +148,7 @@ fn put_alias(s: &[u8], l: usize, i: usize, n: usize, k: usize, out: &mut [u8], t
 // The digipeaters of an alias whose number was read.
 fn read_alias(s: &[u8], number: Taken, l: usize, n: usize, out: &mut [u8], to: usize) -> Read
     requires { ⌜ (length (now s) < 5000) × (l ≤ 7) × (n ≤ 8) × (n ≤ length (now s) * 8) × (to < 2 ^ 10) ⌝ }
-    ensures { λ r. ⌜ ((at : ℕ) → number ≡ taken (at + 3) (takeBits 3 (drop at (unpack (now (s .entry)))))
+    ensures { λ r. ⌜ ((at : ℕ) → number ≡ took 3 (unpack (now (s .entry))) at
         → ReadsTo (digiBytes l (unpack (now (s .entry))) n 0) (unpack (now (s .entry))) (readAlias l n (drop at (unpack (now (s .entry))))) (now (out .entry)) to (now (out .exit)) r) ⌝ }
 {
     let Taken::Bits(i, p) = number else {
@@ -161,12 +163,23 @@ fn read_alias(s: &[u8], number: Taken, l: usize, n: usize, out: &mut [u8], to: u
     Read::Next(p, put_alias(s, l, (i - 1) as usize, n, 0, out, to))
 }
 
-// The alias bit, then the alias or the tokens. One reader takes the bit and the number behind it, which is the alias's where the bit is set.
+// The alias bit and the n bits after it, which are the alias's number where the bit is set: one reader takes both.
+fn alias_at(s: &[u8], at: usize, n: usize) -> Two
+    requires { ⌜ (n ≤ 64) × (length (now s) < 2 ^ 60) ⌝ }
+    ensures { λ r. ⌜ (r .first ≡ took 1 (unpack (now (s .entry))) at) × (r .second ≡ took n (unpack (now (s .entry))) (afterOf (r .first) at)) ⌝ }
+{
+    let mut r = Reader { bytes: s, at };
+    let first = r.bit();
+    let second = r.take(n);
+    Two { first, second }
+}
+
+// The alias bit, then the alias or the tokens.
 fn read_aliased(s: &[u8], at: usize, l: usize, n: usize, out: &mut [u8], to: usize) -> Read
     requires { ⌜ (length (now s) < 5000) × (2 ≤ l) × (l ≤ 7) × (n ≤ 8) × (n ≤ length (now s) * 8) × (to < 2 ^ 10) ⌝ }
     ensures { λ r. ⌜ ReadsTo (digiBytes l (unpack (now (s .entry))) n 0) (unpack (now (s .entry))) (readAliased l n (drop at (unpack (now (s .entry))))) (now (out .entry)) to (now (out .exit)) r ⌝ }
 {
-    let t = bits::reader::two_at(s, at, 1, 3);
+    let t = alias_at(s, at, 3);
     let bit = t.first;
     let Taken::Bits(x, p) = bit else {
         return Read::Nothing;
@@ -277,7 +290,7 @@ fn read_bytes(s: &[u8], at: usize, out: &mut [u8], to: usize) -> usize
     requires { ⌜ (length (now s) < 5000) × (at ≤ length (now s) * 8) × (to < 2 ^ 20) ⌝ }
     ensures { λ r. ⌜ Wrote (now (out .entry)) to (bytesIn (drop at (unpack (now (s .entry))))) (now (out .exit)) r ⌝ }
 {
-    bits::read::bytes(s, at, out, to)
+    bits::reader::bytes_at(s, at, out, to)
 }
 
 // The body of a type, from a position on; where there is none, nothing is said of the output.
