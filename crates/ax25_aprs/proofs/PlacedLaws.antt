@@ -14,7 +14,7 @@ use Rattle.laws.specs.Bits.{valueOf}
 use Rattle.laws.specs.Pick.{pick}
 use Rattle.laws.proofs.BitLaws.{value-take-lt}
 use Rattle.laws.proofs.Cases.{by-test}
-use Rattle.bits.specs.Read.{took, afterOf}
+use Rattle.bits.specs.Read.{took}
 use Rattle.bits.specs.declared.read.Taken.{Taken}
 use Rattle.bits.specs.declared.read.Taken.the-variants.{Bits, Short}
 use Rattle.bits.proofs.TakenLaws.{next-at}
@@ -23,7 +23,7 @@ use Rattle.ax25_aprs.specs.Place.{widthOf, Answered, within, foundOf, Ha
 use Rattle.ax25_aprs.specs.Text.{padded, readText}
 use Rattle.ax25_aprs.specs.declared.place.Answers.{Answers}
 use Rattle.ax25_aprs.specs.declared.place.Found.{Found}
-use Rattle.ax25_aprs.specs.declared.place.Found.the-variants.{At, Nothing}
+use Rattle.ax25_aprs.specs.declared.place.Found.the-variants.{Nothing}
 use Rattle.ax25_aprs.specs.declared.place.Place.{Place}
 use Rattle.ax25_aprs.proofs.PlaceLaws.{dotted-size, field-at, end-around, latlon-some}
 use Rattle.ax25_aprs.proofs.ValueLaws.{told-is, told-few, bit-told}

@@ -7,7 +7,7 @@ ghost use Prim.Native.Nat.{_+_, _-_, _^_, _≤_, _<_, ℕ};
 ghost use lib.ListN.{length, getD, drop};
 ghost use Rattle.laws.specs.Bits.{unpack};
 ghost use Rattle.laws.specs.Text.{ascii};
-ghost use Rattle.bits.specs.Read.{takeBits, takeText, taken, afterOf};
+ghost use Rattle.bits.specs.Read.{took, tookText, afterOf};
 ghost use Rattle.ax25_token.specs.Call.{empty, pushed, appended, callOf, texts, behindCall, formName};
 ghost use Rattle.ax25_token.specs.Tables.{callAlphabet};
 ghost use Rattle.ax25_token.specs.Token.{twoDigits, suffix, formOf, readLetters, readSpelled, readPair, readNumber, readForm, readToken};
@@ -173,8 +173,7 @@ fn spelled(s: &[u8], at: usize, n: usize, c: Call) -> Decoded
 // The bit of a digit and the number after it, whose w bits are read as decimal digits: one reader takes both.
 fn pair_at(s: &[u8], at: usize, w: usize) -> Two
     requires { ⌜ (w ≤ 2) × (length (now s) < 2 ^ 60) ⌝ }
-    ensures { λ r. ⌜ (r .first ≡ taken (at + 1) (takeBits 1 (drop at (unpack (now (s .entry))))))
-        × (r .second ≡ taken (afterOf (r .first) at + w) (takeText w (drop (afterOf (r .first) at) (unpack (now (s .entry)))))) ⌝ }
+    ensures { λ r. ⌜ (r .first ≡ took 1 (unpack (now (s .entry))) at) × (r .second ≡ tookText w (unpack (now (s .entry))) (afterOf (r .first) at)) ⌝ }
 {
     let mut r = Reader { bytes: s, at };
     let first = r.bit();

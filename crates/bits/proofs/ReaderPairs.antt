@@ -41,10 +41,9 @@ use Rattle.bits.specs.Read.{afterOf, moved}
 use Rattle.bits.specs.declared.read.Taken.{Taken}
 use Rattle.bits.specs.declared.reader.Reader.{Reader}
 use Rattle.bits.specs.declared.reader.Two.{Two}
-use Rattle.bits.proofs.ReaderLocals.{made, OwnS, reads}
 use Rattle.bits.proofs.ReaderMoves.{ref-ty, Mut, Mut-n}
 use Rattle.bits.proofs.ReaderTurns.{numbered, plainly, turn}
-use Rattle.bits.proofs.ReaderWays.{v, Own, Reading-n, reads-bit}
+use Rattle.bits.proofs.ReaderWays.{v, Own, made, OwnS, reads, Reading-n, reads-bit}
 use Rattle.bits.proofs.read.Taken as S
 use Rattle.bits.proofs.read.Taken.Laws as S′
 use Rattle.bits.proofs.reader.Reader.Laws as T′

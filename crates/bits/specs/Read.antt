@@ -36,9 +36,12 @@ unfoldable pub taken : ℕ → Option (ℕ × List Bool) → Taken
 taken next none = Short
 taken next (some p) = Bits (p .0) next
 
--- the answer of `take` at a position of all bits
+-- the answers of `take` and `text` at a position of all bits
 abbrev pub took : ℕ → List Bool → ℕ → Taken
 took n b at = taken (at + n) (takeBits n (drop at b))
+
+abbrev pub tookText : ℕ → List Bool → ℕ → Taken
+tookText n b at = taken (at + n) (takeText n (drop at b))
 
 -- the position after an answer: the next one, or the same where there are too few bits
 unfoldable pub afterOf : Taken → ℕ → ℕ

@@ -8,7 +8,7 @@ ghost use lib.Seq.{sets};
 ghost use Rattle.laws.specs.Bits.{odd, num, bitsOf, valueOf, packN, unpack};
 ghost use Rattle.laws.specs.Digits.{numberOf};
 ghost use Rattle.laws.specs.Wrote.{Wrote};
-ghost use Rattle.bits.specs.Read.{takeBits, takeText, numbers, letter, taken, afterOf};
+ghost use Rattle.bits.specs.Read.{took, tookText, numbers, letter, afterOf};
 ghost use Rattle.bits.specs.Text7.{endOf, text7Of, text7Next, text7Left};
 use bits_write::byte;
 use bits_write::least;
@@ -99,7 +99,7 @@ fn value(s: &[u8], at: usize, n: usize) -> u64
 // The next n bits, as a number.
 pub(crate) fn take(s: &[u8], at: usize, n: usize) -> Taken
     requires { ⌜ (n ≤ 64) × (length (now s) < 2 ^ 60) ⌝ }
-    ensures { λ r. ⌜ r ≡ taken (at + n) (takeBits n (drop at (unpack (now (s .entry))))) ⌝ }
+    ensures { λ r. ⌜ r ≡ took n (unpack (now (s .entry))) at ⌝ }
 {
     if remaining(s, at) < n {
         return Taken::Short;
@@ -127,7 +127,7 @@ fn digits(s: &[u8], at: usize, n: usize) -> u64
 // The next n bits as text of 0 and 1, and the number that `vb_val` reads there.
 pub(crate) fn text(s: &[u8], at: usize, n: usize) -> Taken
     requires { ⌜ (n ≤ 16) × (length (now s) < 2 ^ 60) ⌝ }
-    ensures { λ r. ⌜ r ≡ taken (at + n) (takeText n (drop at (unpack (now (s .entry))))) ⌝ }
+    ensures { λ r. ⌜ r ≡ tookText n (unpack (now (s .entry))) at ⌝ }
 {
     if remaining(s, at) < n {
         return Taken::Short;

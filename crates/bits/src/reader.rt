@@ -1,11 +1,11 @@
 // A reader that borrows the message bytes and keeps a bit position: `Reader` of the source, over the functions of `read`.
-// `bit`, `take` and `text` move the position after what they read, and leave it where there are too few bits.
+// `bit`, `take` and `text` move the position past what they read, and leave it where there are too few bits.
 ghost use mathlib.Core.Path.{_≡_};
-ghost use Prim.Native.Nat.{_+_, _-_, _*_, _/_, _^_, _≤_, _<_};
+ghost use Prim.Native.Nat.{_-_, _*_, _/_, _^_, _≤_, _<_};
 ghost use lib.ListN.{length, drop};
 ghost use Rattle.laws.specs.Bits.{packN, unpack};
 ghost use Rattle.laws.specs.Wrote.{Wrote};
-ghost use Rattle.bits.specs.Read.{takeBits, takeText, taken, moved};
+ghost use Rattle.bits.specs.Read.{took, tookText, moved};
 ghost use Rattle.bits.specs.Text7.{text7Of, text7Next, text7Left};
 use crate::read;
 use crate::read::Got;
@@ -41,7 +41,7 @@ impl<'a> Reader<'a> {
     // The next bit, 0 or 1.
     pub fn bit(&mut self) -> Taken
         requires { ⌜ length (now (now self .bytes)) < 2 ^ 60 ⌝ }
-        ensures { λ r. ⌜ (r ≡ taken (now (self .entry) .at + 1) (takeBits 1 (drop (now (self .entry) .at) (unpack (now (now (self .entry) .bytes))))))
+        ensures { λ r. ⌜ (r ≡ took 1 (unpack (now (now (self .entry) .bytes))) (now (self .entry) .at))
             × (now (self .exit) ≡ moved (now (self .entry)) r) ⌝ }
     {
         self.take(1)
@@ -50,7 +50,7 @@ impl<'a> Reader<'a> {
     // The next n bits, as a number.
     pub fn take(&mut self, n: usize) -> Taken
         requires { ⌜ (n ≤ 64) × (length (now (now self .bytes)) < 2 ^ 60) ⌝ }
-        ensures { λ r. ⌜ (r ≡ taken (now (self .entry) .at + n) (takeBits n (drop (now (self .entry) .at) (unpack (now (now (self .entry) .bytes))))))
+        ensures { λ r. ⌜ (r ≡ took n (unpack (now (now (self .entry) .bytes))) (now (self .entry) .at))
             × (now (self .exit) ≡ moved (now (self .entry)) r) ⌝ }
     {
         let at = self.at;
@@ -62,7 +62,7 @@ impl<'a> Reader<'a> {
     // The next n bits as text of 0 and 1, and the number that `vb_val` reads there.
     pub fn text(&mut self, n: usize) -> Taken
         requires { ⌜ (n ≤ 16) × (length (now (now self .bytes)) < 2 ^ 60) ⌝ }
-        ensures { λ r. ⌜ (r ≡ taken (now (self .entry) .at + n) (takeText n (drop (now (self .entry) .at) (unpack (now (now (self .entry) .bytes))))))
+        ensures { λ r. ⌜ (r ≡ tookText n (unpack (now (now (self .entry) .bytes))) (now (self .entry) .at))
             × (now (self .exit) ≡ moved (now (self .entry)) r) ⌝ }
     {
         let at = self.at;
@@ -108,7 +108,7 @@ pub fn remaining_at(s: &[u8], at: usize) -> usize
 // The n bits from a position on, as a number.
 pub fn take_at(s: &[u8], at: usize, n: usize) -> Taken
     requires { ⌜ (n ≤ 64) × (length (now s) < 2 ^ 60) ⌝ }
-    ensures { λ r. ⌜ r ≡ taken (at + n) (takeBits n (drop at (unpack (now (s .entry))))) ⌝ }
+    ensures { λ r. ⌜ r ≡ took n (unpack (now (s .entry))) at ⌝ }
 {
     let mut r = Reader { bytes: s, at };
     r.take(n)
@@ -117,7 +117,7 @@ pub fn take_at(s: &[u8], at: usize, n: usize) -> Taken
 // The n bits from a position on as text of 0 and 1, and the number that `vb_val` reads there.
 pub fn text_at(s: &[u8], at: usize, n: usize) -> Taken
     requires { ⌜ (n ≤ 16) × (length (now s) < 2 ^ 60) ⌝ }
-    ensures { λ r. ⌜ r ≡ taken (at + n) (takeText n (drop at (unpack (now (s .entry))))) ⌝ }
+    ensures { λ r. ⌜ r ≡ tookText n (unpack (now (s .entry))) at ⌝ }
 {
     let mut r = Reader { bytes: s, at };
     r.text(n)

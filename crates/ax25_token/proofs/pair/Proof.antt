@@ -2,23 +2,14 @@
 -- Assumes nothing.
 use borrow.Author.Needs.{needs}
 use mathlib.Core.Path.{sym, _∙_}
-use mathlib.Core.Bool.{Bool}
-use mathlib.Core.List.{List}
-use Prim.Native.Nat.{ℕ, _+_}
 use native.Mathlib.Omega.{arith}
-use lib.ListN.{drop}
 use denote.Ref.{now}
 use Rattle.laws.specs.Bits.{unpack}
-use Rattle.bits.specs.Read.{takeText, taken}
-use Rattle.bits.specs.declared.read.Taken.{Taken}
+use Rattle.bits.specs.Read.{tookText}
 use Rattle.bits.proofs.TakenLaws.{next-at, told-small, told-text-small}
 use Rattle.ax25_token.proofs.ReaderWays.{no-digit, no-number, with-pair}
 use Rattle.ax25_token.proofs.pair.Statement.{statement}
 use Rattle.ax25_token.proofs.pair.Tie as tie
-
--- the number's reading at a position
-abbrev Digits : List Bool → ℕ → ℕ → Taken
-Digits b w p = taken (p + w) (takeText w (drop p b))
 
 pair-at-requires : tie.Need-pair-at-requires
 pair-at-requires c κs = search needs
@@ -49,7 +40,7 @@ returns-2 : tie.Need-returns-2
 returns-2 c =
     let a = c .before .before .before .before .before .before .before .before .args in
     let digit = sym (c .before .before .before .before .before .before .pair-at .ensures .0) ∙ c .before .before .before .before .digit .given .1 in
-    let number = sym (next-at (Digits (unpack (now (c .before .before .before .before .before .before .before .before .args .s))) (c .before .before .before .before .before .before .before .before .args .w)) _ _ (c .before .before .before .before .before .before .before .before .args .at) _ _ (c .before .before .before .before .digit .given .1) (c .before .before .before .before .before .before .pair-at .ensures .1)) ∙ c .before .enum-told2 .given .1 in
+    let number = sym (next-at (tookText (c .before .before .before .before .before .before .before .before .args .w) (unpack (now (c .before .before .before .before .before .before .before .before .args .s)))) _ _ (c .before .before .before .before .before .before .before .before .args .at) _ _ (c .before .before .before .before .digit .given .1) (c .before .before .before .before .before .before .pair-at .ensures .1)) ∙ c .before .enum-told2 .given .1 in
     no-number _ (a .at) (a .w) _ _ _ digit number _ (c .nothing2 .ensures)
 
 add-push : tie.Need-add-push
@@ -67,14 +58,14 @@ push-requires c κs = search needs
 
 suffixed-requires : tie.Need-suffixed-requires
 suffixed-requires c κs =
-    let number = sym (next-at (Digits (unpack (now (c .before .before .before .before .before .before .before .before .before .args .s))) (c .before .before .before .before .before .before .before .before .before .args .w)) _ _ (c .before .before .before .before .before .before .before .before .before .args .at) _ _ (c .before .before .before .before .before .digit .given .1) (c .before .before .before .before .before .before .before .pair-at .ensures .1)) ∙ c .before .before .number .given .1 in
+    let number = sym (next-at (tookText (c .before .before .before .before .before .before .before .before .before .args .w) (unpack (now (c .before .before .before .before .before .before .before .before .before .args .s)))) _ _ (c .before .before .before .before .before .before .before .before .before .args .at) _ _ (c .before .before .before .before .before .digit .given .1) (c .before .before .before .before .before .before .before .pair-at .ensures .1)) ∙ c .before .before .number .given .1 in
     omega (arith, told-text-small _ _ (c .before .before .before .before .before .before .before .before .before .args .w) _ _ number 2 (omega arith) (omega arith))
 
 returns-3 : tie.Need-returns-3
 returns-3 c =
     let a = c .before .before .before .before .before .before .before .before .before .before .args in
     let digit = sym (c .before .before .before .before .before .before .before .before .pair-at .ensures .0) ∙ c .before .before .before .before .before .before .digit .given .1 in
-    let number = sym (next-at (Digits (unpack (now (c .before .before .before .before .before .before .before .before .before .before .args .s))) (c .before .before .before .before .before .before .before .before .before .before .args .w)) _ _ (c .before .before .before .before .before .before .before .before .before .before .args .at) _ _ (c .before .before .before .before .before .before .digit .given .1) (c .before .before .before .before .before .before .before .before .pair-at .ensures .1)) ∙ c .before .before .before .number .given .1 in
+    let number = sym (next-at (tookText (c .before .before .before .before .before .before .before .before .before .before .args .w) (unpack (now (c .before .before .before .before .before .before .before .before .before .before .args .s)))) _ _ (c .before .before .before .before .before .before .before .before .before .before .args .at) _ _ (c .before .before .before .before .before .before .digit .given .1) (c .before .before .before .before .before .before .before .before .pair-at .ensures .1)) ∙ c .before .before .before .number .given .1 in
     with-pair _ (a .at) (a .w) _ _ _ digit _ _ number _ _ (c .before .push .ensures .0) (c .suffixed .ensures .0) (c .before .push .ensures .1) (c .suffixed .ensures .1)
 
 pub pair-spec : {M : Type 1} → statement M

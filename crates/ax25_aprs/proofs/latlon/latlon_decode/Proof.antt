@@ -4,15 +4,12 @@ use native.Mathlib.Omega.{arith}
 use borrow.Author.Needs.{needs}
 use mathlib.Core.Path.{refl, subst}
 use denote.Ref.{now}
-use Prim.Native.Nat.{_+_}
 use lib.ListN.{drop}
-use lib.Seq.{drop-drop}
 use Rattle.laws.specs.Bits.{unpack}
 use Rattle.laws.proofs.WroteLaws.{wrote-then}
-use Rattle.ax25_aprs.specs.LatLon.{tableEnd}
 use Rattle.ax25_aprs.specs.Place.{Placed}
-use Rattle.ax25_aprs.proofs.PlaceLaws.{latlon-none, latlon-some}
-use Rattle.ax25_aprs.proofs.PlacedLaws.{table-small, listed-small, symbol-small, place-told, place-size, latlon-found}
+use Rattle.ax25_aprs.proofs.PlaceLaws.{latlon-none}
+use Rattle.ax25_aprs.proofs.PlacedLaws.{table-small, listed-small, symbol-small, place-size, latlon-found}
 use Rattle.ax25_aprs.proofs.PartLaws.{reads}
 use Rattle.ax25_aprs.proofs.latlon.latlon_decode.Statement.{statement}
 use Rattle.ax25_aprs.proofs.latlon.latlon_decode.Tie as tie

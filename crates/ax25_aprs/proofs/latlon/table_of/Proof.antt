@@ -1,7 +1,6 @@
 -- `ax25_aprs::latlon::table_of` meets its contract.
 -- Assumes nothing.
 use mathlib.Core.Path.{sym, _∙_}
-use native.Mathlib.Omega.{arith}
 use borrow.Author.Needs.{needs}
 use borrow.Author.Tests.{eq-eqb, ne-eqb}
 use Rattle.ax25_aprs.proofs.PlacedLaws.{table-listed, table-plain}

@@ -46,10 +46,9 @@ use Rattle.laws.specs.Bits.{unpack}
 use Rattle.bits.specs.Read.{took, afterOf, moved}
 use Rattle.bits.specs.declared.read.Taken.{Taken}
 use Rattle.bits.specs.declared.reader.Reader.{Reader}
-use Rattle.bits.proofs.ReaderLocals.{made, OwnS, reads}
 use Rattle.bits.proofs.ReaderMoves.{Mut, Mut-n}
 use Rattle.bits.proofs.ReaderTurns.{numbered, plainly, turn}
-use Rattle.bits.proofs.ReaderWays.{v, Own, reads-bit, reads-take, clause}
+use Rattle.bits.proofs.ReaderWays.{v, Own, made, OwnS, reads, reads-bit, reads-take, clause}
 use Rattle.bits.proofs.read.Taken as S
 use Rattle.bits.proofs.read.Taken.Laws as S′
 use Rattle.bits.proofs.reader.Reader.bit.Symbol as bit-def
