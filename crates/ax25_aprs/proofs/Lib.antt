@@ -7,6 +7,7 @@ mod HeightLaws
 pub mod PartLaws
 pub mod PlaceBack
 pub mod PlaceLaws
+mod PlacedLaws
 pub mod Sizes
 mod Steps
 pub mod TextBack

@@ -21,7 +21,7 @@ use Rattle.bits_write.specs.Write.{topBits}
 use Rattle.refusals.specs.Outcome.{refused, answer}
 use Rattle.ax25_aprs.specs.Coded.{_then_, orRefused}
 use Rattle.ax25_aprs.specs.Text.{textBits, padded, readText}
-use Rattle.ax25_aprs.specs.LatLon.{sideBits, tableCode, tableBits, latBits, lonBits, placeBits, latlonBits, tables, dotted, fieldOf, side, tableEnd, tableText, latText, lonText, readLatlon}
+use Rattle.ax25_aprs.specs.LatLon.{sideBits, tableCode, tableBits, latBits, lonBits, placeBits, latlonBits, dotted, fieldOf, side, tableEnd, tableText, latText, lonText, readLatlon}
 use Rattle.ax25_aprs.specs.Body.{timestampedBits, readTimestamped}
 use Rattle.ax25_aprs.proofs.TextLaws.{padded-few, padded-more, length-padded}
 
@@ -139,14 +139,6 @@ module _ (b : List Bool) where
 
   pub end-around : (25 ≤ tableEnd b) × (tableEnd b ≤ 29)
   end-around = by-test (getD b 21 false) (λ e. rw (end-yes e) (omega arith, omega arith)) (λ e. rw (end-no e) (omega arith, omega arith))
-
-  pub text-yes : getD b 21 false ≡ true → tableText b ≡ getD tables (fieldOf 22 3 b) 0
-  unfolding tableText pick
-  text-yes e = rw e
-
-  pub text-no : getD b 21 false ≡ false → tableText b ≡ fieldOf 22 7 b
-  unfolding tableText pick
-  text-no e = rw e
 
   pub lat-text-size : length (latText b) ≤ 10
   unfolding latText

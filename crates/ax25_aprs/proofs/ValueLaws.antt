@@ -15,7 +15,7 @@ use Rattle.laws.proofs.ByteLaws.{length-unpack}
 use Rattle.laws.proofs.Cases.{by-le}
 use Rattle.bits.specs.Read.{takeBits, taken}
 use Rattle.bits.specs.declared.read.Taken.the-variants.{Bits, Short}
-use Rattle.bits.proofs.ReadLaws.{taken-bits}
+use Rattle.bits.proofs.ReadLaws.{taken-bits, take-yes, take-no}
 
 -- how many bits there are from a position on
 pub bits-left : (s : List ℕ) (at : ℕ) → length (drop at (unpack s)) ≡ length s * 8 - at
@@ -39,6 +39,30 @@ module _ (s : List ℕ) (at n : ℕ) (h : n ≤ length s * 8 - at) where
   value-told v q e =
       let f : Bits (valueOf (take n (drop at (unpack s)))) (at + n) ≡ Bits v q = sym (taken-bits s at n h) ∙ e in
       cc
+
+-- the same of any bits, where the answer tells that they are there or that they are not
+module _ (u : List Bool) (at n : ℕ) where
+  pub told-is : (v q : ℕ) → taken (at + n) (takeBits n (drop at u)) ≡ Bits v q → (v ≡ valueOf (take n (drop at u))) × (q ≡ at + n) × (n ≤ length (drop at u))
+  unfolding taken
+  told-is v q e =
+      by-le n (length (drop at u))
+      (λ h.
+      let f : Bits (valueOf (take n (drop at u))) (at + n) ≡ Bits v q = ap (taken (at + n)) (sym (take-yes n (drop at u) h)) ∙ e in
+      (cc, cc, h))
+      (λ h.
+      let f : Short ≡ Bits v q = ap (taken (at + n)) (sym (take-no n (drop at u) h)) ∙ e in
+      let z : _≡_ {A = ℕ} 0 1 = cc in
+      absurd (omega (arith, z)))
+
+  pub told-few : taken (at + n) (takeBits n (drop at u)) ≡ Short → length (drop at u) < n
+  unfolding taken
+  told-few e =
+      by-le n (length (drop at u))
+      (λ h.
+      let f : Bits (valueOf (take n (drop at u))) (at + n) ≡ Short = ap (taken (at + n)) (sym (take-yes n (drop at u) h)) ∙ e in
+      let z : _≡_ {A = ℕ} 0 1 = cc in
+      absurd (omega (arith, z)))
+      (λ h. h)
 
 num-test : (x : Bool) → eqb (num x) 1 ≡ x
 unfolding num

@@ -2,18 +2,22 @@
 use crate::field;
 use crate::number;
 use crate::part::Part;
+use crate::place::Found;
+use crate::place::Place;
+use crate::place::place_at;
 use crate::text;
 use bits::read::Got;
 ghost use mathlib.Core.Path.{_≡_};
-ghost use mathlib.Core.Bool.{false};
-ghost use mathlib.Core.List.{[], _∷_, _++_};
-ghost use Prim.Native.Nat.{_+_, _*_, _/_, _^_, _≤_, _<_};
+ghost use mathlib.Core.List.{_∷_, _++_};
+ghost use Prim.Native.Nat.{_+_, _/_, _^_, _≤_, _<_};
+ghost use lib.Dec.{eqb};
 ghost use lib.ListN.{length, getD, take, drop};
 ghost use Rattle.laws.specs.Bits.{unpack};
 ghost use Rattle.laws.specs.Digits.{digits};
 ghost use Rattle.laws.specs.Wrote.{Wrote};
 ghost use Rattle.bits.specs.Val.{valOf};
-ghost use Rattle.ax25_aprs.specs.LatLon.{sideBits, tableCode, tableBits, latBits, lonBits, latlonBits, tables, dotted, side, tableEnd, tableText, latText, lonText, readLatlon};
+ghost use Rattle.ax25_aprs.specs.LatLon.{sideBits, tableCode, tableBits, latBits, lonBits, latlonBits, tables, dotted, side, readLatlon};
+ghost use Rattle.ax25_aprs.specs.Place.{tableOf, halfText, placeText};
 ghost use Rattle.ax25_aprs.specs.Put.{Does, Reads};
 ghost use Rattle.ax25_aprs.specs.Text.{padded};
 
@@ -135,26 +139,14 @@ fn put_dotted(out: &mut [u8], to: usize, k: usize, n: usize, v: u64) -> usize
     put_around(out, to, k, n + 1 - k, v)
 }
 
-// One of two letters, by the bit at a position. The next place.
-fn put_letter(s: &[u8], at: usize, y: u8, n: u8, out: &mut [u8], to: usize) -> usize
-    requires { ⌜ (at < length (now s) * 8) × (length (now s) < 2 ^ 55) × (to < 2 ^ 61) ⌝ }
-    ensures { λ r. ⌜ Wrote (now (out .entry)) to (side y n (getD (unpack (now (s .entry))) at false) ∷ []) (now (out .exit)) r ⌝ }
+// One of two letters, by a bit.
+fn side_of(x: u64, y: u8, n: u8) -> u8
+    ensures { λ r. ⌜ r ≡ side y n (eqb x 1) ⌝ }
 {
-    if field::bit(s, at) {
-        return bits_write::byte(out, to, y);
+    if x == 1 {
+        return y;
     }
-    bits_write::byte(out, to, n)
-}
-
-// Where the longitude starts, counted from the position's first bit.
-fn table_end(s: &[u8], at: usize) -> usize
-    requires { ⌜ (at + 54 ≤ length (now s) * 8) × (length (now s) < 2 ^ 55) ⌝ }
-    ensures { λ r. ⌜ r ≡ tableEnd (drop at (unpack (now (s .entry)))) ⌝ }
-{
-    if field::bit(s, at + 21) {
-        return 25;
-    }
-    29
+    n
 }
 
 // A symbol table by its place.
@@ -166,35 +158,38 @@ fn table_byte(k: u64) -> u8
     SYMBOL_TABLES[i]
 }
 
-// The symbol table of a position.
-fn table_at(s: &[u8], at: usize) -> u8
-    requires { ⌜ (at + 54 ≤ length (now s) * 8) × (length (now s) < 2 ^ 55) ⌝ }
-    ensures { λ r. ⌜ r ≡ tableText (drop at (unpack (now (s .entry)))) ⌝ }
+// A symbol table: by its place where the bit before it says so, else the byte itself.
+fn table_of(listed: u64, table: u64) -> u8
+    requires { ⌜ (table < 128) × (listed ≡ 1 → table < 8) ⌝ }
+    ensures { λ r. ⌜ r ≡ tableOf listed table ⌝ }
 {
-    if field::bit(s, at + 21) {
-        return table_byte(field::value(s, at + 22, 3));
+    if listed == 1 {
+        return table_byte(table);
     }
-    field::narrow(field::value(s, at + 22, 7))
+    field::narrow(table)
 }
 
-// The text of latitude, N or S, table. The next place.
-fn read_lat(s: &[u8], at: usize, out: &mut [u8], to: usize) -> usize
-    requires { ⌜ (at + 54 ≤ length (now s) * 8) × (length (now s) < 2 ^ 55) × (to < 2 ^ 59) ⌝ }
-    ensures { λ r. ⌜ Wrote (now (out .entry)) to (latText (drop at (unpack (now (s .entry))))) (now (out .exit)) r ⌝ }
+// A number with a dot, a letter and a byte. The next place.
+fn put_half(k: usize, n: usize, v: u64, letter: u8, last: u8, out: &mut [u8], to: usize) -> usize
+    requires { ⌜ (k ≤ n) × (n < 8) × (0 < k) × (to < 2 ^ 59) ⌝ }
+    ensures { λ r. ⌜ Wrote (now (out .entry)) to (halfText k n v letter last) (now (out .exit)) r ⌝ }
 {
-    let p = put_dotted(out, to, 4, 6, field::value(s, at, 20));
-    let q = put_letter(s, at + 20, b'N', b'S', out, p);
-    bits_write::byte(out, q, table_at(s, at))
+    let p = put_dotted(out, to, k, n, v);
+    let q = bits_write::byte(out, p, letter);
+    bits_write::byte(out, q, last)
 }
 
-// The text of longitude, W or E, symbol, which start e bits behind the position's first bit. The next place.
-fn read_lon(s: &[u8], at: usize, e: usize, out: &mut [u8], to: usize) -> usize
-    requires { ⌜ (e ≡ tableEnd (drop at (unpack (now s)))) × (at + (e + 29) ≤ length (now s) * 8) × (length (now s) < 2 ^ 55) × (to < 2 ^ 59) ⌝ }
-    ensures { λ r. ⌜ Wrote (now (out .entry)) to (lonText (drop at (unpack (now (s .entry))))) (now (out .exit)) r ⌝ }
+// The text of a position's numbers. The next place.
+fn put_place(x: Place, out: &mut [u8], to: usize) -> usize
+    requires { ⌜ (x .table < 128) × (x .listed ≡ 1 → x .table < 8) × (x .symbol < 128) × (to < 2 ^ 58) ⌝ }
+    ensures { λ r. ⌜ Wrote (now (out .entry)) to (placeText x) (now (out .exit)) r ⌝ }
 {
-    let p = put_dotted(out, to, 5, 7, field::value(s, at + e, 21));
-    let q = put_letter(s, at + (e + 21), b'W', b'E', out, p);
-    bits_write::byte(out, q, field::narrow(field::value(s, at + (e + 22), 7)))
+    let north = side_of(x.north, b'N', b'S');
+    let table = table_of(x.listed, x.table);
+    let p = put_half(4, 6, x.lat, north, table, out, to);
+    let west = side_of(x.west, b'W', b'E');
+    let symbol = field::narrow(x.symbol);
+    put_half(5, 7, x.lon, west, symbol, out, p)
 }
 
 // The position that stands from a bit on, written from a place of the output on; where there is none, nothing is said of the output.
@@ -202,15 +197,9 @@ pub fn latlon_decode(s: &[u8], at: usize, out: &mut [u8], to: usize) -> Got
     requires { ⌜ (length (now s) < 2 ^ 55) × (at < 2 ^ 60) × (to < 2 ^ 55) ⌝ }
     ensures { λ r. ⌜ Reads (readLatlon (drop at (unpack (now (s .entry))))) (now (out .entry)) to (now (out .exit)) r ⌝ }
 {
-    let left = bits::reader::remaining_at(s, at);
-    if left < 54 {
+    let Found::At(x) = place_at(s, at) else {
         return Got::Nothing;
-    }
-    let e = table_end(s, at);
-    if left < e + 29 {
-        return Got::Nothing;
-    }
-    let p = read_lat(s, at, out, to);
-    let q = read_lon(s, at, e, out, p);
-    Got::Next(text::text_decode(s, at + (e + 29), true, out, q))
+    };
+    let p = put_place(x, out, to);
+    Got::Next(text::text_decode(s, x.next, true, out, p))
 }

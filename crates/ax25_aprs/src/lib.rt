@@ -5,6 +5,7 @@ mod height;
 pub mod latlon;
 mod number;
 pub mod part;
+mod place;
 pub mod text;
 pub mod third;
 mod words;

@@ -3,11 +3,12 @@ ghost use mathlib.Core.Path.{_≡_};
 ghost use mathlib.Core.Bool.{false};
 ghost use mathlib.Core.List.{[], _∷_};
 ghost use mathlib.Core.Option.{none, some};
-ghost use Prim.Native.Nat.{_+_, _*_, _/_, _^_, _≤_, _<_};
+ghost use Prim.Native.Nat.{_+_, _*_, _/_, _^_, _≤_, _<_, ℕ};
 ghost use lib.ListN.{length, getD, drop};
 ghost use Rattle.laws.specs.Bits.{odd, unpack};
 ghost use Rattle.laws.specs.Pick.{pick};
 ghost use Rattle.laws.specs.Wrote.{Wrote};
+ghost use Rattle.bits.specs.Read.{took, afterOf};
 ghost use Rattle.ax25_token.specs.Token.{readToken};
 ghost use Rattle.ax25_address.specs.Parse.{aliases, aliasCalls};
 ghost use Rattle.ax25_address.specs.Kind.{typeNumber};
@@ -28,6 +29,8 @@ use ax25_token::encode::call_starts;
 use ax25_token::token_decode;
 use bits::read::Got;
 use bits::read::Taken;
+use bits::reader::Reader;
+use bits::reader::Two;
 
 // The next position and the next place, or nothing to read.
 pub enum Read {
@@ -142,12 +145,13 @@ fn put_alias(s: &[u8], l: usize, i: usize, n: usize, k: usize, out: &mut [u8], t
     put_alias(s, l, i, n - 1, k + 1, out, q)
 }
 
-// The digipeaters of an alias by its number.
-fn read_alias(s: &[u8], at: usize, l: usize, n: usize, out: &mut [u8], to: usize) -> Read
+// The digipeaters of an alias whose number was read.
+fn read_alias(s: &[u8], number: Taken, l: usize, n: usize, out: &mut [u8], to: usize) -> Read
     requires { ⌜ (length (now s) < 5000) × (l ≤ 7) × (n ≤ 8) × (n ≤ length (now s) * 8) × (to < 2 ^ 10) ⌝ }
-    ensures { λ r. ⌜ ReadsTo (digiBytes l (unpack (now (s .entry))) n 0) (unpack (now (s .entry))) (readAlias l n (drop at (unpack (now (s .entry))))) (now (out .entry)) to (now (out .exit)) r ⌝ }
+    ensures { λ r. ⌜ ((at : ℕ) → number ≡ took 3 (unpack (now (s .entry))) at
+        → ReadsTo (digiBytes l (unpack (now (s .entry))) n 0) (unpack (now (s .entry))) (readAlias l n (drop at (unpack (now (s .entry))))) (now (out .entry)) to (now (out .exit)) r) ⌝ }
 {
-    let Taken::Bits(i, p) = bits::reader::take_at(s, at, 3) else {
+    let Taken::Bits(i, p) = number else {
         return Read::Nothing;
     };
     if i == 0 {
@@ -159,16 +163,30 @@ fn read_alias(s: &[u8], at: usize, l: usize, n: usize, out: &mut [u8], to: usize
     Read::Next(p, put_alias(s, l, (i - 1) as usize, n, 0, out, to))
 }
 
+// The alias bit and the n bits after it, which are the alias's number where the bit is set: one reader takes both.
+fn alias_at(s: &[u8], at: usize, n: usize) -> Two
+    requires { ⌜ (n ≤ 64) × (length (now s) < 2 ^ 60) ⌝ }
+    ensures { λ r. ⌜ (r .first ≡ took 1 (unpack (now (s .entry))) at) × (r .second ≡ took n (unpack (now (s .entry))) (afterOf (r .first) at)) ⌝ }
+{
+    let mut r = Reader { bytes: s, at };
+    let first = r.bit();
+    let second = r.take(n);
+    Two { first, second }
+}
+
 // The alias bit, then the alias or the tokens.
 fn read_aliased(s: &[u8], at: usize, l: usize, n: usize, out: &mut [u8], to: usize) -> Read
     requires { ⌜ (length (now s) < 5000) × (2 ≤ l) × (l ≤ 7) × (n ≤ 8) × (n ≤ length (now s) * 8) × (to < 2 ^ 10) ⌝ }
     ensures { λ r. ⌜ ReadsTo (digiBytes l (unpack (now (s .entry))) n 0) (unpack (now (s .entry))) (readAliased l n (drop at (unpack (now (s .entry))))) (now (out .entry)) to (now (out .exit)) r ⌝ }
 {
-    let Taken::Bits(x, p) = bits::reader::bit_at(s, at) else {
+    let t = alias_at(s, at, 3);
+    let bit = t.first;
+    let Taken::Bits(x, p) = bit else {
         return Read::Nothing;
     };
     if x == 1 {
-        return read_alias(s, p, l, n, out, to);
+        let number = t.second;
+        return read_alias(s, number, l, n, out, to);
     }
     read_tokens(s, p, l, n, 0, out, to)
 }
@@ -272,7 +290,7 @@ fn read_bytes(s: &[u8], at: usize, out: &mut [u8], to: usize) -> usize
     requires { ⌜ (length (now s) < 5000) × (at ≤ length (now s) * 8) × (to < 2 ^ 20) ⌝ }
     ensures { λ r. ⌜ Wrote (now (out .entry)) to (bytesIn (drop at (unpack (now (s .entry))))) (now (out .exit)) r ⌝ }
 {
-    bits::read::bytes(s, at, out, to)
+    bits::reader::bytes_at(s, at, out, to)
 }
 
 // The body of a type, from a position on; where there is none, nothing is said of the output.

@@ -6,7 +6,7 @@ use mathlib.Core.List.{List, _∷_, _++_}
 use Prim.Native.Nat.{ℕ, _+_, _≤_}
 use native.Mathlib.Omega.{arith}
 use lib.ListN.{drop}
-use Rattle.bits.specs.Read.{taken}
+use Rattle.bits.specs.Read.{takeText, taken}
 use Rattle.bits.specs.declared.read.Taken.the-variants.{Bits, Short}
 use Rattle.bits.proofs.TakenLaws.{told-bits, told-short, told-text, told-text-short}
 use Rattle.ax25_token.specs.declared.Call.{Call}
@@ -47,11 +47,11 @@ module _ (b : List Bool) (at w : ℕ) (c : Call) where
   no-digit e r q = onto-nothing b c 4 _ r (pair-short w (drop at b) (told-short b at 1 e)) q
 
   module _ (d p : ℕ) (e : takenAt b at 1 ≡ Bits d p) where
-    pub no-number : taken (p + w) (wideNumber w (drop p b)) ≡ Short → (r : Decoded) → None r → Paired r
+    pub no-number : taken (p + w) (takeText w (drop p b)) ≡ Short → (r : Decoded) → None r → Paired r
     unfolding wideNumber
     no-number f r q = onto-nothing b c 4 _ r (pair-bare w (drop at b) d (drop p b) (told-bits b at 1 d p e) (told-text-short b p w f)) q
 
-    pub with-pair : (v q : ℕ) → taken (p + w) (wideNumber w (drop p b)) ≡ Bits v q
+    pub with-pair : (v q : ℕ) → taken (p + w) (takeText w (drop p b)) ≡ Bits v q
         → (x y : Call) → x ≡ pushed c (49 + d) → y ≡ appended x (suffix v) → x .len ≡ c .len + 1 → y .len ≤ x .len + 3
         → Paired (record { token = Next q; call = y })
     unfolding appended wideNumber

@@ -7,14 +7,14 @@ ghost use Prim.Native.Nat.{_+_, _-_, _^_, _≤_, _<_, ℕ};
 ghost use lib.ListN.{length, getD, drop};
 ghost use Rattle.laws.specs.Bits.{unpack};
 ghost use Rattle.laws.specs.Text.{ascii};
-ghost use Rattle.bits.specs.Read.{taken};
+ghost use Rattle.bits.specs.Read.{took, tookText, afterOf};
 ghost use Rattle.ax25_token.specs.Call.{empty, pushed, appended, callOf, texts, behindCall, formName};
 ghost use Rattle.ax25_token.specs.Tables.{callAlphabet};
-ghost use Rattle.ax25_token.specs.Token.{twoDigits, suffix, formOf, wideNumber, readLetters, readSpelled, readPair, readNumber, readForm, readToken};
+ghost use Rattle.ax25_token.specs.Token.{twoDigits, suffix, formOf, readLetters, readSpelled, readPair, readNumber, readForm, readToken};
 use bits::read::Taken;
-use bits::reader::bit_at;
+use bits::reader::Reader;
+use bits::reader::Two;
 use bits::reader::take_at;
-use bits::reader::text_at;
 
 // A call: its text is the first len bytes.
 pub struct Call {
@@ -170,12 +170,15 @@ fn spelled(s: &[u8], at: usize, n: usize, c: Call) -> Decoded
     }
 }
 
-// The number behind a digit: its bits are read as decimal digits.
-fn wide_number(s: &[u8], at: usize, w: usize) -> Taken
+// The bit of a digit and the number after it, whose w bits are read as decimal digits: one reader takes both.
+fn pair_at(s: &[u8], at: usize, w: usize) -> Two
     requires { ⌜ (w ≤ 2) × (length (now s) < 2 ^ 60) ⌝ }
-    ensures { λ r. ⌜ r ≡ taken (at + w) (wideNumber w (drop at (unpack (now (s .entry))))) ⌝ }
+    ensures { λ r. ⌜ (r .first ≡ took 1 (unpack (now (s .entry))) at) × (r .second ≡ tookText w (unpack (now (s .entry))) (afterOf (r .first) at)) ⌝ }
 {
-    text_at(s, at, w)
+    let mut r = Reader { bytes: s, at };
+    let first = r.bit();
+    let second = r.text(w);
+    Two { first, second }
 }
 
 // A digit, 1 or 2, and a number of w bits.
@@ -183,10 +186,13 @@ fn pair(s: &[u8], at: usize, w: usize, c: Call) -> Decoded
     requires { ⌜ (length (now s) < 2 ^ 60) × (c .len ≤ 12) × (w ≤ 2) ⌝ }
     ensures { λ r. ⌜ (callOf (unpack (now (s .entry))) r ≡ behindCall c (readPair w (drop at (unpack (now (s .entry)))))) × (r .call .len ≤ c .len + 4) ⌝ }
 {
-    let Taken::Bits(d, p) = bit_at(s, at) else {
+    let two = pair_at(s, at, w);
+    let digit = two.first;
+    let Taken::Bits(d, _) = digit else {
         return nothing();
     };
-    let Taken::Bits(v, q) = wide_number(s, p, w) else {
+    let number = two.second;
+    let Taken::Bits(v, q) = number else {
         return nothing();
     };
     let e = push(c, (49 + d) as u8);

@@ -14,7 +14,7 @@ use Rattle.laws.specs.Bits.{valueOf}
 use Rattle.laws.specs.Pick.{pick}
 use Rattle.laws.proofs.BitLaws.{value-take-lt}
 use Rattle.laws.proofs.Cases.{by-le}
-use Rattle.bits.specs.Read.{takeBits, takeText, letter, taken}
+use Rattle.bits.specs.Read.{takeBits, takeText, letter, taken, afterOf}
 use Rattle.bits.specs.Val.{valOf}
 use Rattle.bits.specs.declared.read.Taken.{Taken}
 use Rattle.bits.specs.declared.read.Taken.the-variants.{Bits, Short}
@@ -30,6 +30,11 @@ view b Short = none
 next : Taken → ℕ
 next (Bits v q) = suc q
 next Short = 0
+
+-- a reading after one that found its bits starts at the next position
+pub next-at : (R : ℕ → Taken) (t u : Taken) (at v q : ℕ) → t ≡ Bits v q → u ≡ R (afterOf t at) → u ≡ R q
+unfolding afterOf
+next-at R t u at v q e h = h ∙ ap (λ (x : Taken). R (afterOf x at)) e
 
 -- n bits from a position on are read as w
 abbrev Reads : List Bool → ℕ → ℕ → ℕ → Bool → Option (ℕ × List Bool)

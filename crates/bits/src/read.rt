@@ -8,7 +8,7 @@ ghost use lib.Seq.{sets};
 ghost use Rattle.laws.specs.Bits.{odd, num, bitsOf, valueOf, packN, unpack};
 ghost use Rattle.laws.specs.Digits.{numberOf};
 ghost use Rattle.laws.specs.Wrote.{Wrote};
-ghost use Rattle.bits.specs.Read.{takeBits, takeText, numbers, letter, taken};
+ghost use Rattle.bits.specs.Read.{took, tookText, numbers, letter, afterOf};
 ghost use Rattle.bits.specs.Text7.{endOf, text7Of, text7Next, text7Left};
 use bits_write::byte;
 use bits_write::least;
@@ -24,10 +24,20 @@ pub enum Taken {
     Short,
 }
 
-// The next place behind a text that was read, or no bits at all.
+// The next place after a text that was read, or no bits at all.
 pub enum Got {
     Next(usize),
     Nothing,
+}
+
+// The position after what was read from a position on: the same where there were too few bits.
+pub(crate) fn after(t: Taken, at: usize) -> usize
+    ensures { λ r. ⌜ r ≡ afterOf t at ⌝ }
+{
+    match t {
+        Taken::Bits(_, p) => p,
+        Taken::Short => at,
+    }
 }
 
 // How many bits there are from a position on.
@@ -89,7 +99,7 @@ fn value(s: &[u8], at: usize, n: usize) -> u64
 // The next n bits, as a number.
 pub(crate) fn take(s: &[u8], at: usize, n: usize) -> Taken
     requires { ⌜ (n ≤ 64) × (length (now s) < 2 ^ 60) ⌝ }
-    ensures { λ r. ⌜ r ≡ taken (at + n) (takeBits n (drop at (unpack (now (s .entry))))) ⌝ }
+    ensures { λ r. ⌜ r ≡ took n (unpack (now (s .entry))) at ⌝ }
 {
     if remaining(s, at) < n {
         return Taken::Short;
@@ -98,14 +108,6 @@ pub(crate) fn take(s: &[u8], at: usize, n: usize) -> Taken
         return Taken::Bits(0, at);
     }
     Taken::Bits(value(s, at, n), at + n)
-}
-
-// The next bit, 0 or 1.
-pub(crate) fn bit(s: &[u8], at: usize) -> Taken
-    requires { ⌜ length (now s) < 2 ^ 60 ⌝ }
-    ensures { λ r. ⌜ r ≡ taken (at + 1) (takeBits 1 (drop at (unpack (now (s .entry))))) ⌝ }
-{
-    take(s, at, 1)
 }
 
 // The n bits from a position on, as decimal digits.
@@ -125,7 +127,7 @@ fn digits(s: &[u8], at: usize, n: usize) -> u64
 // The next n bits as text of 0 and 1, and the number that `vb_val` reads there.
 pub(crate) fn text(s: &[u8], at: usize, n: usize) -> Taken
     requires { ⌜ (n ≤ 16) × (length (now s) < 2 ^ 60) ⌝ }
-    ensures { λ r. ⌜ r ≡ taken (at + n) (takeText n (drop at (unpack (now (s .entry))))) ⌝ }
+    ensures { λ r. ⌜ r ≡ tookText n (unpack (now (s .entry))) at ⌝ }
 {
     if remaining(s, at) < n {
         return Taken::Short;
@@ -272,7 +274,7 @@ fn words(s: &[u8], at: usize, n: usize, out: &mut [u8], to: usize) -> usize
 }
 
 // The whole bytes from a position on, written from a place of the output on. The next place.
-pub fn bytes(s: &[u8], at: usize, out: &mut [u8], to: usize) -> usize
+pub(crate) fn bytes(s: &[u8], at: usize, out: &mut [u8], to: usize) -> usize
     requires { ⌜ (length (now s) < 2 ^ 60) × (to < 2 ^ 61) ⌝ }
     ensures { λ r. ⌜ Wrote (now (out .entry)) to (packN ((length (now (s .entry)) * 8 - at) / 8) (drop at (unpack (now (s .entry))))) (now (out .exit)) r ⌝ }
 {

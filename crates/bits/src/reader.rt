@@ -1,10 +1,11 @@
 // A reader that borrows the message bytes and keeps a bit position: `Reader` of the source, over the functions of `read`.
-// The reader is passed by value: where the source moves the position, the answer has the next one.
+// `bit`, `take` and `text` move the position past what they read, and leave it where there are too few bits.
 ghost use mathlib.Core.Path.{_≡_};
-ghost use Prim.Native.Nat.{_+_, _-_, _*_, _^_, _≤_, _<_};
+ghost use Prim.Native.Nat.{_-_, _*_, _/_, _^_, _≤_, _<_};
 ghost use lib.ListN.{length, drop};
-ghost use Rattle.laws.specs.Bits.{unpack};
-ghost use Rattle.bits.specs.Read.{takeBits, takeText, taken};
+ghost use Rattle.laws.specs.Bits.{packN, unpack};
+ghost use Rattle.laws.specs.Wrote.{Wrote};
+ghost use Rattle.bits.specs.Read.{took, tookText, moved};
 ghost use Rattle.bits.specs.Text7.{text7Of, text7Next, text7Left};
 use crate::read;
 use crate::read::Got;
@@ -13,6 +14,12 @@ use crate::read::Taken;
 pub struct Reader<'a> {
     pub bytes: &'a [u8],
     pub at: usize,
+}
+
+// Two answers in turn: the second from where the first left the reader.
+pub struct Two {
+    pub first: Taken,
+    pub second: Taken,
 }
 
 impl<'a> Reader<'a> {
@@ -32,27 +39,36 @@ impl<'a> Reader<'a> {
     }
 
     // The next bit, 0 or 1.
-    pub fn bit(self) -> Taken
-        requires { ⌜ length (now (self .bytes)) < 2 ^ 60 ⌝ }
-        ensures { λ r. ⌜ r ≡ taken (self .entry .at + 1) (takeBits 1 (drop (self .entry .at) (unpack (now (self .entry .bytes))))) ⌝ }
+    pub fn bit(&mut self) -> Taken
+        requires { ⌜ length (now (now self .bytes)) < 2 ^ 60 ⌝ }
+        ensures { λ r. ⌜ (r ≡ took 1 (unpack (now (now (self .entry) .bytes))) (now (self .entry) .at))
+            × (now (self .exit) ≡ moved (now (self .entry)) r) ⌝ }
     {
-        read::bit(self.bytes, self.at)
+        self.take(1)
     }
 
     // The next n bits, as a number.
-    pub fn take(self, n: usize) -> Taken
-        requires { ⌜ (n ≤ 64) × (length (now (self .bytes)) < 2 ^ 60) ⌝ }
-        ensures { λ r. ⌜ r ≡ taken (self .entry .at + n) (takeBits n (drop (self .entry .at) (unpack (now (self .entry .bytes))))) ⌝ }
+    pub fn take(&mut self, n: usize) -> Taken
+        requires { ⌜ (n ≤ 64) × (length (now (now self .bytes)) < 2 ^ 60) ⌝ }
+        ensures { λ r. ⌜ (r ≡ took n (unpack (now (now (self .entry) .bytes))) (now (self .entry) .at))
+            × (now (self .exit) ≡ moved (now (self .entry)) r) ⌝ }
     {
-        read::take(self.bytes, self.at, n)
+        let at = self.at;
+        let t = read::take(self.bytes, at, n);
+        self.at = read::after(t, at);
+        t
     }
 
     // The next n bits as text of 0 and 1, and the number that `vb_val` reads there.
-    pub fn text(self, n: usize) -> Taken
-        requires { ⌜ (n ≤ 16) × (length (now (self .bytes)) < 2 ^ 60) ⌝ }
-        ensures { λ r. ⌜ r ≡ taken (self .entry .at + n) (takeText n (drop (self .entry .at) (unpack (now (self .entry .bytes))))) ⌝ }
+    pub fn text(&mut self, n: usize) -> Taken
+        requires { ⌜ (n ≤ 16) × (length (now (now self .bytes)) < 2 ^ 60) ⌝ }
+        ensures { λ r. ⌜ (r ≡ tookText n (unpack (now (now (self .entry) .bytes))) (now (self .entry) .at))
+            × (now (self .exit) ≡ moved (now (self .entry)) r) ⌝ }
     {
-        read::text(self.bytes, self.at, n)
+        let at = self.at;
+        let t = read::text(self.bytes, at, n);
+        self.at = read::after(t, at);
+        t
     }
 
     // The text from the position on, without the pad, written from a place of the output on.
@@ -62,6 +78,14 @@ impl<'a> Reader<'a> {
             × (now (out .exit) ≡ text7Left (now (out .entry)) to (text7Of (unpack (now (self .entry .bytes))) (self .entry .at))) ⌝ }
     {
         read::text7(self.bytes, self.at, out, to)
+    }
+
+    // The whole bytes from the position on, written from a place of the output on. The next place.
+    pub fn bytes(self, out: &mut [u8], to: usize) -> usize
+        requires { ⌜ (length (now (self .bytes)) < 2 ^ 60) × (to < 2 ^ 61) ⌝ }
+        ensures { λ r. ⌜ Wrote (now (out .entry)) to (packN ((length (now (self .entry .bytes)) * 8 - self .entry .at) / 8) (drop (self .entry .at) (unpack (now (self .entry .bytes))))) (now (out .exit)) r ⌝ }
+    {
+        read::bytes(self.bytes, self.at, out, to)
     }
 }
 
@@ -81,28 +105,22 @@ pub fn remaining_at(s: &[u8], at: usize) -> usize
     Reader { bytes: s, at }.remaining()
 }
 
-// The bit at a position, 0 or 1.
-pub fn bit_at(s: &[u8], at: usize) -> Taken
-    requires { ⌜ length (now s) < 2 ^ 60 ⌝ }
-    ensures { λ r. ⌜ r ≡ taken (at + 1) (takeBits 1 (drop at (unpack (now (s .entry))))) ⌝ }
-{
-    Reader { bytes: s, at }.bit()
-}
-
 // The n bits from a position on, as a number.
 pub fn take_at(s: &[u8], at: usize, n: usize) -> Taken
     requires { ⌜ (n ≤ 64) × (length (now s) < 2 ^ 60) ⌝ }
-    ensures { λ r. ⌜ r ≡ taken (at + n) (takeBits n (drop at (unpack (now (s .entry))))) ⌝ }
+    ensures { λ r. ⌜ r ≡ took n (unpack (now (s .entry))) at ⌝ }
 {
-    Reader { bytes: s, at }.take(n)
+    let mut r = Reader { bytes: s, at };
+    r.take(n)
 }
 
 // The n bits from a position on as text of 0 and 1, and the number that `vb_val` reads there.
 pub fn text_at(s: &[u8], at: usize, n: usize) -> Taken
     requires { ⌜ (n ≤ 16) × (length (now s) < 2 ^ 60) ⌝ }
-    ensures { λ r. ⌜ r ≡ taken (at + n) (takeText n (drop at (unpack (now (s .entry))))) ⌝ }
+    ensures { λ r. ⌜ r ≡ tookText n (unpack (now (s .entry))) at ⌝ }
 {
-    Reader { bytes: s, at }.text(n)
+    let mut r = Reader { bytes: s, at };
+    r.text(n)
 }
 
 // The text from a position on, without the pad, written from a place of the output on.
@@ -112,4 +130,12 @@ pub fn text7_at(s: &[u8], at: usize, out: &mut [u8], to: usize) -> Got
         × (now (out .exit) ≡ text7Left (now (out .entry)) to (text7Of (unpack (now (s .entry))) at)) ⌝ }
 {
     Reader { bytes: s, at }.text7(out, to)
+}
+
+// The whole bytes from a position on, written from a place of the output on. The next place.
+pub fn bytes_at(s: &[u8], at: usize, out: &mut [u8], to: usize) -> usize
+    requires { ⌜ (length (now s) < 2 ^ 60) × (to < 2 ^ 61) ⌝ }
+    ensures { λ r. ⌜ Wrote (now (out .entry)) to (packN ((length (now (s .entry)) * 8 - at) / 8) (drop at (unpack (now (s .entry))))) (now (out .exit)) r ⌝ }
+{
+    Reader { bytes: s, at }.bytes(out, to)
 }

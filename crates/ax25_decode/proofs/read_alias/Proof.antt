@@ -11,32 +11,29 @@ use borrow.Author.Needs.{needs}
 use Rattle.ax25_decode.proofs.read_alias.Statement.{statement}
 use Rattle.ax25_decode.proofs.read_alias.Tie as tie
 
-take-at-requires : tie.Need-take-at-requires
-take-at-requires c κs = search needs
-
-enum-known-i : tie.Need-enum-known-i
-enum-known-i c = search needs
+enum-known-number : tie.Need-enum-known-number
+enum-known-number c = search needs
 
 enum-told : tie.Need-enum-told
 enum-told c = search needs
 
 returns : tie.Need-returns
-returns c =
-    let a = c .before .before .before .before .before .args in
+returns c = λ at h.
+    let a = c .before .before .before .before .args in
     let b = unpack (now (a .s)) in
-    alias-short (a .l) (a .n) (drop (a .at) b) (told-short b (a .at) 3 (sym (c .before .before .take-at .ensures) ∙ c .enum-told .given .1))
+    alias-short (a .l) (a .n) (drop at b) (told-short b at 3 (sym h ∙ c .enum-told .given .1))
 
 returns-2 : tie.Need-returns-2
-returns-2 c =
-    let a = c .before .before .before .before .before .before .before .args in
+returns-2 c = λ at h.
+    let a = c .before .before .before .before .before .before .args in
     let b = unpack (now (a .s)) in
-    alias-zero (a .l) (a .n) (drop (a .at) b) _ _ (told-bits b (a .at) 3 _ _ (sym (c .before .before .before .before .take-at .ensures) ∙ c .before .before .i .given .1)) (c .if1 .taken)
+    alias-zero (a .l) (a .n) (drop at b) _ _ (told-bits b at 3 _ _ (sym h ∙ c .before .before .number .given .1)) (c .if1 .taken)
 
 returns-3 : tie.Need-returns-3
-returns-3 c =
-    let a = c .before .before .before .before .before .before .before .before .args in
+returns-3 c = λ at h.
+    let a = c .before .before .before .before .before .before .before .args in
     let b = unpack (now (a .s)) in
-    alias-past (a .l) (a .n) (drop (a .at) b) _ _ (told-bits b (a .at) 3 _ _ (sym (c .before .before .before .before .before .take-at .ensures) ∙ c .before .before .before .i .given .1)) (c .if2 .taken)
+    alias-past (a .l) (a .n) (drop at b) _ _ (told-bits b at 3 _ _ (sym h ∙ c .before .before .before .number .given .1)) (c .if2 .taken)
 
 sub-put-alias : tie.Need-sub-put-alias
 sub-put-alias c = search needs
@@ -48,17 +45,16 @@ same-length : tie.Need-same-length
 same-length c = search needs
 
 returns-4 : tie.Need-returns-4
-returns-4 c =
-    let a = c .before .before .before .before .before .before .before .before .before .before .before .before .args in
+returns-4 c = λ at h.
+    let a = c .before .before .before .before .before .before .before .before .before .before .before .args in
     let b = unpack (now (a .s)) in
-    alias-read (a .l) (a .n) (drop (a .at) b) b _ _ (told-bits b (a .at) 3 _ _ (sym (c .before .before .before .before .before .before .before .before .before .take-at .ensures) ∙ c .before .before .before .before .before .before .before .i .given .1)) (c .before .before .before .before .before .if1 .left) (omega (arith, c .before .before .before .before .if2 .left)) _ _ (a .to) _ (c .before .before .put-alias .ensures)
+    alias-read (a .l) (a .n) (drop at b) b _ _ (told-bits b at 3 _ _ (sym h ∙ c .before .before .before .before .before .before .before .number .given .1)) (c .before .before .before .before .before .if1 .left) (omega (arith, c .before .before .before .before .if2 .left)) _ _ (a .to) _ (c .before .before .put-alias .ensures)
 
 pub read-alias-spec : {M : Type 1} → statement M
 read-alias-spec =
     tie.close
     (tie.spec
-    take-at-requires
-    enum-known-i
+    enum-known-number
     enum-told
     returns
     returns-2
