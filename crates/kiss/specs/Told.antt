@@ -12,8 +12,8 @@ use Rattle.ax25.specs.Encode.{Coded}
 use Rattle.kiss.specs.Codec.{Summary, Decoded}
 use Rattle.kiss.specs.declared.Encoded.{Encoded}
 use Rattle.kiss.specs.declared.Encoded.the-variants.{Refused, Bytes}
-use Rattle.kiss.specs.declared.Summarised.{Summarised}
-use Rattle.kiss.specs.declared.Summarised.the-variants as summarised
+use Rattle.kiss.specs.declared.summaries.Summarised.{Summarised}
+use Rattle.kiss.specs.declared.summaries.Summarised.the-variants as summarised
 use Rattle.kiss.specs.declared.Decoded as decoded
 use Rattle.kiss.specs.declared.Decoded.the-variants as variants
 

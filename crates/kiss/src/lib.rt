@@ -1,6 +1,10 @@
 // Data coded and messages decoded.
 mod generic;
+mod summaries;
 
+pub use summaries::Facts;
+pub use summaries::Summarised;
+pub use summaries::summary;
 ghost use mathlib.Core.Path.{_≡_};
 ghost use mathlib.Core.Option.{some};
 ghost use Prim.Native.Nat.{_≤_, _<_};
@@ -12,13 +16,12 @@ ghost use Rattle.ax25.specs.Encode.{encodeOf};
 ghost use Rattle.ax25_address.specs.Parse.{parseOf};
 ghost use Rattle.ax25_address.specs.Record.{recordOf, seenOf};
 ghost use Rattle.ax25_address.specs.Types.{Text, Generic, callLen};
-ghost use Rattle.kiss.specs.Codec.{codeOf, summaryOf, orSeven, decodeOf};
+ghost use Rattle.kiss.specs.Codec.{codeOf, orSeven, decodeOf};
 ghost use Rattle.kiss.specs.Generic.{genericOf, genericBack};
-ghost use Rattle.kiss.specs.Told.{encodedOf, codeInto, summarisedOf, decodedOf, decodeInto};
+ghost use Rattle.kiss.specs.Told.{encodedOf, codeInto, decodedOf, decodeInto};
 use ax25_address::classify::AprsType;
 use ax25_address::record::Parsed;
 use ax25_address::record::Record;
-use ax25_address::record::UI_CTRL;
 use ax25_aprs::part::Part;
 use bits::read::Got;
 use refusals::COMMAND;
@@ -91,48 +94,6 @@ pub fn encode(command: u8, data: &[u8], out: &mut [u8]) -> Encoded
         return encode_generic(data, out);
     }
     encode_frame(command, data, out)
-}
-
-// What a frame is, before it is coded.
-pub struct Facts {
-    pub aprs_type: AprsType,
-    pub digis: usize,
-    pub ui: bool,
-}
-
-// A refusal's number, or the facts.
-pub enum Summarised {
-    Refused(u8),
-    Is(Facts),
-}
-
-// The type, how many digipeaters, and whether control is 03. Of generic bytes: Text, 0, false.
-pub fn summary(command: u8, data: &[u8]) -> Summarised
-    ensures { λ r. ⌜ summarisedOf r ≡ summaryOf command (now («data» .entry)) ⌝ }
-{
-    if 2 < command {
-        return Summarised::Refused(COMMAND);
-    }
-    if MAX_DATA < data.len() {
-        return Summarised::Refused(TOO_LONG);
-    }
-    if command == 2 {
-        return Summarised::Is(Facts {
-            aprs_type: AprsType::Text,
-            digis: 0,
-            ui: false,
-        });
-    }
-    let Parsed::Found(found) = ax25_address::record::parse(data, command) else {
-        return Summarised::Refused(SHORT);
-    };
-    let aprs_type = found.aprs_type;
-    let digis = found.digis;
-    Summarised::Is(Facts {
-        aprs_type,
-        digis,
-        ui: found.ctrl == UI_CTRL,
-    })
 }
 
 // A refusal's number, or the command and how many bytes were written.

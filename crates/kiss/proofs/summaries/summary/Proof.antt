@@ -5,8 +5,8 @@ use mathlib.Core.Path.{sym, ap, _∙_}
 use denote.Ref.{now}
 use Rattle.ax25_address.specs.Record.{foundOf}
 use Rattle.kiss.proofs.SummaryLaws.{no-command, too-long, of-generic, of-short, of-found}
-use Rattle.kiss.proofs.summary.Statement.{statement}
-use Rattle.kiss.proofs.summary.Tie as tie
+use Rattle.kiss.proofs.summaries.summary.Statement.{statement}
+use Rattle.kiss.proofs.summaries.summary.Tie as tie
 
 returns : tie.Need-returns
 returns c =
