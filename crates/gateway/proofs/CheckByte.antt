@@ -6,10 +6,11 @@ use Prim.Native.Nat.{ℕ, _+_, _-_, _*_, _/_, _%_, _^_, _≤_, _<_}
 use native.Mathlib.Nat.{mod-lt, mod-eq-of-lt}
 use native.Mathlib.Omega.{arith}
 use lib.Bits.{bitAnd, bitOr, and-high, or-shifted-r}
-use lib.Pow.{high, pow-pos, pow-mono}
+use lib.Pow.{high, pow-pos}
 use Rattle.crc.specs.Crc.{crcOf, crcBits}
 use Rattle.refusals.proofs.LimitLaws.{Top}
 use Rattle.sender.specs.Send.{checkOf, mostOf}
+use Rattle.sender.proofs.MaskLaws.{most-is}
 
 -- a mask of the j bits above the lowest k takes the high bits back out of them joined with a number below 2 ^ k
 mask-back : (j k a x : ℕ) → a < 2 ^ k → bitAnd (bitOr a (bitAnd x (2 ^ (j + k) - 2 ^ k))) (2 ^ (j + k) - 2 ^ k) ≡ bitAnd x (2 ^ (j + k) - 2 ^ k)
@@ -24,24 +25,7 @@ mask-back j k a x h =
     ∙ sym (and-high x j k)
 
 module _ (mask : ℕ) (top : Top mask) where
-  mask-is : mask ≡ 256 - 2 ^ (top .free)
-  mask-is = top .is ∙ ap (λ (n : ℕ). 2 ^ n - 2 ^ (top .free)) (top .whole)
-
-  free-few : 2 ^ (top .free) ≤ 2 ^ 7
-  free-few =
-      let h : top .free ≤ 7 = omega (arith, top .whole, top .some-bits) in
-      pow-mono h
-
-  -- the largest count leaves the check bits free
-  pub most-is : mostOf mask ≡ 2 ^ (top .free) + 1
-  unfolding mostOf
-  most-is =
-      omega (arith, mask-is, pow-pos (top .free), free-few)
-
-  pub most-few : mostOf mask ≤ 129
-  most-few = omega (arith, most-is, free-few)
-
   pub check-passes : (message : List ℕ) (count : ℕ) → count ≤ mostOf mask → 2 ≤ count → crcBits message mask ≡ bitAnd (checkOf message mask count) mask
   unfolding checkOf crcBits
   check-passes message count l t =
-      sym (rw (top .is) (mask-back (top .w) (top .free) (count - 2) (crcOf message / 256) (omega (arith, most-is))))
+      sym (rw (top .is) (mask-back (top .w) (top .free) (count - 2) (crcOf message / 256) (omega (arith, most-is mask top))))

@@ -18,6 +18,7 @@ use Rattle.refusals.specs.Limits.{fieldOk}
 use Rattle.refusals.proofs.LimitLaws.{Top, mask-top, field-low}
 use Rattle.sender.specs.Send.{ceiling, countOf, checkOf, fragmentOf, mostOf}
 use Rattle.sender.proofs.CountLaws.{ceiling-covers, count-one, count-many}
+use Rattle.sender.proofs.MaskLaws.{most-few}
 use Rattle.sender.proofs.SendLaws.{lead-more, lead-last, fragment-single, fragment-first, fragment-suc, send-accepted}
 use Rattle.frame.specs.Frame.{frameOf}
 use Rattle.frame.specs.declared.Control.{Control}
@@ -25,7 +26,7 @@ use Rattle.frame.proofs.FrameLaws.{frame-starts, build-accepted}
 use Rattle.receiver.specs.Join.{Heard, more, done}
 use Rattle.gateway.specs.Run.{Call, push}
 use Rattle.gateway.specs.Script.{Sending, Line, line, calls, answers}
-use Rattle.gateway.proofs.CheckByte.{most-few, check-passes}
+use Rattle.gateway.proofs.CheckByte.{check-passes}
 use Rattle.gateway.proofs.FrameHeard.{pushed, front-first, front-only, front-next}
 use Rattle.gateway.proofs.Lines.{Accepted, AllAccepted, linesFrom, linesOf, allLines}
 use Rattle.gateway.proofs.View.{Held, empty, part, Out, out, acceptV, stepV, runV, endV, growV-more, growV-last, end-one, end-good}

@@ -18,7 +18,7 @@ pub const OUTPUT: u8 = 6;
 pub const NOT_DECODED: u8 = 7;
 // The field is outside 3 to 512.
 pub const FIELD: u8 = 8;
-// The mask is not F0 or F8.
+// The mask is not the top 1 to 7 bits of a byte.
 pub const MASK: u8 = 9;
 // The message to send is empty.
 pub const EMPTY: u8 = 10;
@@ -63,12 +63,12 @@ pub fn field_ok(field: usize) -> bool
     field <= 512
 }
 
-// The mask is F0 (HF) or F8 (FM).
+// The mask is the top 1 to 7 bits of a byte.
 pub fn mask_ok(mask: u8) -> bool
     ensures { λ r. ⌜ r ≡ maskOk mask ⌝ }
 {
-    if mask == HF_CRC_MASK {
-        return true;
+    match mask {
+        0x80 | 0xC0 | 0xE0 | HF_CRC_MASK | FM_CRC_MASK | 0xFC | 0xFE => true,
+        _ => false,
     }
-    mask == FM_CRC_MASK
 }

@@ -1,3 +1,4 @@
 pub mod CountLaws
+pub mod MaskLaws
 pub mod SendLaws
 pub mod SplitLaws
