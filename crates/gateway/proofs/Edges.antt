@@ -1,10 +1,10 @@
--- Document 01's edges marked P: one table that holds of the definitions as a whole.
+-- Document 01's edges marked P, and masks of 1 to 7 check bits (02, E11): two tables that hold of the definitions as a whole.
 -- Assumes nothing.
 use mathlib.Core.Path.{_≡_, refl}
 use mathlib.Core.Bool.{Bool, true, false, _&&_, not}
 use mathlib.Core.List.{List, [], _∷_, map}
 use mathlib.Core.Option.{Option, none, some}
-use Prim.Native.Nat.{ℕ, zero, suc, _+_}
+use Prim.Native.Nat.{ℕ, zero, suc, _+_, _%_}
 use Prim.Native.String.{String}
 use lib.Bits.{bitAnd}
 use lib.Dec.{leb, eqb}
@@ -18,7 +18,8 @@ use Rattle.bits_write.specs.Text7.{sevens, lastOr, text7Bits}
 use Rattle.bits.specs.Read.{numbers}
 use Rattle.bits.specs.Text7.{differ, counted, endOf, text7Of}
 use Rattle.bits.specs.Val.{stops, nextVal, valFrom, valOf}
-use Rattle.refusals.specs.Outcome.{Outcome, refused, answer}
+use Rattle.refusals.specs.Limits.{topOf}
+use Rattle.refusals.specs.Outcome.{Outcome, refused, answer, accepted}
 use Rattle.sender.specs.Send.{countFor, sendOf, ceiling, countOf, checkOf, leadOf, fragmentOf, mostOf}
 use Rattle.ax25_token.specs.Tables.{callAlphabet, long, symOf, alphaOf, wideTokens, wideRow, pairRows, pairTexts, fixedRows, numberedRows}
 use Rattle.ax25_token.specs.Token.{tokenBits, readToken, hyphened, baseOf, behind, numberAt, twoDigits, decimal, suffix, pairBits, pairsBits, fixedBits, takes, numberedBits, spell, ending, plainAp, apBits, spelledBits, orElse, after, pairForm, fixedForm, numberedForm, symbolForm, formOf, wideNumber, readPair, readNumber, letterOf, goOn, readLetters, readSpelled, readForm}
@@ -36,6 +37,7 @@ pub data Edge : Type 0 where
   decodes : List ℕ → ℕ → List ℕ → Edge  -- a message, command and data
   counts : ℕ → ℕ → ℕ → Edge  -- field and bytes, the count
   refuses : List ℕ → ℕ → ℕ → ℕ → ℕ → Edge  -- a message, field, mask and k, the number that it is refused with
+  longest : ℕ → ℕ → Edge  -- a mask, the bytes of the longest message at field 3: so many are sent, and one more is refused with 12
   leaves : ℕ → ℕ → Edge  -- a mask, the largest count: a byte has no bit of the mask exactly where it is at most that count − 2
   sends : List ℕ → ℕ → ℕ → ℕ → List ℕ → Edge  -- a message, field, mask and k, fragment k
   token : String → String → Edge  -- a call, its bits
@@ -48,10 +50,10 @@ frame = 0x86 ∷ 0xA2 ∷ 0x40 ∷ 0x40 ∷ 0x40 ∷ 0x40 ∷ 0x60 ∷ 0x96 ∷ 
 message : List ℕ
 message = 0x40 ∷ 0xAC ∷ 0xB7 ∷ 0x01 ∷ 0x00 ∷ 0x10 ∷ 0x40 ∷ []
 
--- n bytes: i, i + 1 and so on
+-- n bytes: i, i + 1 and so on, 00 after FF
 from : ℕ → ℕ → List ℕ
 from i zero = []
-from i (suc n) = i ∷ from (suc i) n
+from i (suc n) = i % 256 ∷ from (suc i) n
 
 pub table : List Edge
 table =
@@ -86,6 +88,59 @@ table =
     ∷ counts 5 7 2
     ∷ sends message 5 0xF0 0 (0xC0 ∷ 0x40 ∷ 0xAC ∷ 0xB7 ∷ 0x01 ∷ [])
     ∷ sends message 5 0xF0 1 (0x40 ∷ 0x00 ∷ 0x10 ∷ 0x40 ∷ [])
+    ∷ []
+
+-- "The mask may be the top 1 to 7 bits of the byte. With w check bits the sender accepts counts to 2^(8 − w) + 1."
+pub masks : List Edge
+masks =
+    longest 0x80 258
+    ∷ longest 0xC0 130
+    ∷ longest 0xE0 66
+    ∷ longest 0xF0 34
+    ∷ longest 0xF8 18
+    ∷ longest 0xFC 10
+    ∷ longest 0xFE 6
+    ∷ counts 3 258 129
+    ∷ counts 3 259 130
+    ∷ sends (from 1 258) 3 0x80 0 (0x81 ∷ 0xFF ∷ 0x02 ∷ [])
+    ∷ sends (from 1 258) 3 0x80 128 (0x01 ∷ 0x01 ∷ 0x02 ∷ [])
+    ∷ refuses (from 1 258) 3 0x80 129 13
+    ∷ sends (from 1 6) 3 0xFE 0 (0x81 ∷ 0x29 ∷ 0x02 ∷ [])
+    ∷ sends (from 1 6) 3 0xFE 2 (0x01 ∷ 0x05 ∷ 0x06 ∷ [])
+    ∷ refuses (from 1 6) 3 0xFE 3 13
+    ∷ leaves 0x80 129
+    ∷ leaves 0xC0 65
+    ∷ leaves 0xE0 33
+    ∷ leaves 0xFC 5
+    ∷ leaves 0xFE 3
+    ∷ refuses [] 2 0x00 0 8
+    ∷ refuses [] 3 0x00 0 9
+    ∷ refuses (from 1 6) 3 0x00 0 9
+    ∷ refuses (from 1 6) 3 0x7F 0 9
+    ∷ refuses (from 1 6) 3 0xB0 0 9
+    ∷ refuses (from 1 6) 3 0xFF 0 9
+    ∷ sends message 5 0x80 0 (0xC0 ∷ 0x00 ∷ 0xAC ∷ 0xB7 ∷ 0x01 ∷ [])
+    ∷ sends message 5 0xC0 0 (0xC0 ∷ 0x40 ∷ 0xAC ∷ 0xB7 ∷ 0x01 ∷ [])
+    ∷ sends message 5 0xE0 0 (0xC0 ∷ 0x40 ∷ 0xAC ∷ 0xB7 ∷ 0x01 ∷ [])
+    ∷ sends message 5 0xF0 0 (0xC0 ∷ 0x40 ∷ 0xAC ∷ 0xB7 ∷ 0x01 ∷ [])
+    ∷ sends message 5 0xF8 0 (0xC0 ∷ 0x48 ∷ 0xAC ∷ 0xB7 ∷ 0x01 ∷ [])
+    ∷ sends message 5 0xFC 0 (0xC0 ∷ 0x4C ∷ 0xAC ∷ 0xB7 ∷ 0x01 ∷ [])
+    ∷ sends message 5 0xFE 0 (0xC0 ∷ 0x4C ∷ 0xAC ∷ 0xB7 ∷ 0x01 ∷ [])
+    ∷ sends message 5 0x80 1 (0x40 ∷ 0x00 ∷ 0x10 ∷ 0x40 ∷ [])
+    ∷ sends message 5 0xC0 1 (0x40 ∷ 0x00 ∷ 0x10 ∷ 0x40 ∷ [])
+    ∷ sends message 5 0xE0 1 (0x40 ∷ 0x00 ∷ 0x10 ∷ 0x40 ∷ [])
+    ∷ sends message 5 0xF0 1 (0x40 ∷ 0x00 ∷ 0x10 ∷ 0x40 ∷ [])
+    ∷ sends message 5 0xF8 1 (0x40 ∷ 0x00 ∷ 0x10 ∷ 0x40 ∷ [])
+    ∷ sends message 5 0xFC 1 (0x40 ∷ 0x00 ∷ 0x10 ∷ 0x40 ∷ [])
+    ∷ sends message 5 0xFE 1 (0x40 ∷ 0x00 ∷ 0x10 ∷ 0x40 ∷ [])
+    ∷ counts 3 7 4
+    ∷ sends message 3 0x80 0 (0xC0 ∷ 0x02 ∷ 0xAC ∷ [])
+    ∷ sends message 3 0xC0 0 (0xC0 ∷ 0x42 ∷ 0xAC ∷ [])
+    ∷ sends message 3 0xE0 0 (0xC0 ∷ 0x42 ∷ 0xAC ∷ [])
+    ∷ sends message 3 0xF0 0 (0xC0 ∷ 0x42 ∷ 0xAC ∷ [])
+    ∷ sends message 3 0xF8 0 (0xC0 ∷ 0x4A ∷ 0xAC ∷ [])
+    ∷ sends message 3 0xFC 0 (0xC0 ∷ 0x4E ∷ 0xAC ∷ [])
+    ∷ refuses message 3 0xFE 0 12
     ∷ []
 
 -- ---- tests of answers
@@ -128,6 +183,7 @@ holds (codes command d m) = givesMessage (codeOf command d) m
 holds (decodes m command d) = givesData (decodeOf m) command d
 holds (counts field bytes count) = givesCount (countFor bytes field) count
 holds (refuses m field mask k n) = isRefused (sendOf m field mask k) n
+holds (longest mask n) = accepted (sendOf (from 1 n) 3 mask 0) && isRefused (sendOf (from 1 (suc n)) 3 mask 0) 12
 holds (leaves mask most) = eqb (mostOf mask) most && below (λ x. alike (leb (x + 2) most) (eqb (bitAnd x mask) 0)) 256
 holds (sends m field mask k f) = givesFragment (sendOf m field mask k) f
 holds (token c b) = givesBits (tokenBits 6 (ascii c)) (ascii b)
@@ -138,5 +194,9 @@ all [] = true
 all (e ∷ es) = holds e && all es
 
 pub table-holds : all table ≡ true
-unfolding frame message from table alike below givesMessage givesData givesCount isRefused givesFragment givesBits givesCall holds all odd num bitsOf valueOf fit packN pack unpack pick between upper same isOneOf starts later position trimFront keepOr trimEnd trim crcBit crcSteps crcByte crcFrom crcOf crcBits takeBits takeText sevens numbers lastOr text7Bits differ counted endOf text7Of stops nextVal valFrom valOf ceiling countOf countFor checkOf leadOf fragmentOf mostOf sendOf callAlphabet long symOf alphaOf wideTokens wideRow pairRows pairTexts fixedRows numberedRows hyphened baseOf behind numberAt twoDigits decimal suffix pairBits pairsBits fixedBits takes numberedBits spell ending plainAp apBits spelledBits orElse tokenBits after pairForm fixedForm numberedForm symbolForm formOf wideNumber readPair readNumber letterOf goOn readLetters readSpelled readForm readToken white half addrCall double cutTo ssidOf callBytes anyHigh classifyOf splitOff digiFields parseOf typeOf headerOf bodyBytes tokensBits digiBits headBits infoBits frameBits codeParsed encodeOf marked readTokens readDigis readHead readInfo addresses readFrame genericOf genericBack codeOf decodeMessage decodeSome decodeOf
+unfolding topOf frame message from table alike below givesMessage givesData givesCount isRefused givesFragment givesBits givesCall holds all odd num bitsOf valueOf fit packN pack unpack pick between upper same isOneOf starts later position trimFront keepOr trimEnd trim crcBit crcSteps crcByte crcFrom crcOf crcBits takeBits takeText sevens numbers lastOr text7Bits differ counted endOf text7Of stops nextVal valFrom valOf ceiling countOf countFor checkOf leadOf fragmentOf mostOf sendOf callAlphabet long symOf alphaOf wideTokens wideRow pairRows pairTexts fixedRows numberedRows hyphened baseOf behind numberAt twoDigits decimal suffix pairBits pairsBits fixedBits takes numberedBits spell ending plainAp apBits spelledBits orElse tokenBits after pairForm fixedForm numberedForm symbolForm formOf wideNumber readPair readNumber letterOf goOn readLetters readSpelled readForm readToken white half addrCall double cutTo ssidOf callBytes anyHigh classifyOf splitOff digiFields parseOf typeOf headerOf bodyBytes tokensBits digiBits headBits infoBits frameBits codeParsed encodeOf marked readTokens readDigis readHead readInfo addresses readFrame genericOf genericBack codeOf decodeMessage decodeSome decodeOf
 table-holds = refl
+
+pub masks-hold : all masks ≡ true
+unfolding topOf message from masks alike below givesCount isRefused givesFragment holds all odd num bitsOf valueOf pick same crcBit crcSteps crcByte crcFrom crcOf crcBits ceiling countOf countFor checkOf leadOf fragmentOf mostOf sendOf
+masks-hold = refl

@@ -1,21 +1,26 @@
 -- The premises of demand 3 are met. Every message that sender and frame accept has its frames; all generic bytes and all plain frames of at most
--- 4,999 bytes are messages of the list, under F0 at field 512; and demand 3 is applied to a list of six messages of all kinds.
+-- 4,999 bytes are messages of the list, under F0 at field 512 and under 80 at field 40; and demand 3 is applied: under both to a list of six messages
+-- of all kinds, under every mask to a message in three fragments, and under 80 to one in 129.
 -- Assumes nothing.
 use mathlib.Core.Path.{_≡_, refl, ap, subst}
 use mathlib.Core.Bool.{true, false}
 use mathlib.Core.List.{List, [], _∷_, _++_}
 use mathlib.Core.Option.{some}
 use Prim.Native.Nat.{ℕ, zero, suc, _+_, _-_, _*_, _≤_, _<_}
+use native.Mathlib.Nat.{mul-le-mul-right}
 use native.Mathlib.Omega.{arith}
-use lib.ListN.{length, drop, replicate, length-take, length-replicate}
+use lib.ListN.{length, drop, replicate, length-take, length-replicate, getD-replicate}
+use borrow.Author.Tests.{le-ltb}
 use Rattle.laws.specs.Bits.{Bytes}
 use Rattle.laws.specs.Pick.{pick}
 use Rattle.laws.proofs.Cases.{by-le}
-use Rattle.refusals.specs.Limits.{maskOk}
+use Rattle.refusals.specs.Limits.{fieldOk, topOf, maskOk}
 use Rattle.refusals.specs.Outcome.{answer}
+use Rattle.refusals.proofs.LimitLaws.{field-low, mask-top}
 use Rattle.refusals.proofs.OutcomeLaws.{accepted-is}
 use Rattle.sender.specs.Send.{ceiling, countOf, fragmentOf, mostOf}
 use Rattle.sender.proofs.CountLaws.{ceiling-least, count-one, count-many, count-pos}
+use Rattle.sender.proofs.MaskLaws.{most-three}
 use Rattle.sender.proofs.SendLaws.{Sendable, send-past, send-answer, send-accepted, fragment-single, fragment-first, fragment-suc}
 use Rattle.frame.specs.Frame.{frameOf}
 use Rattle.frame.proofs.FrameLaws.{build-accepted, build-answer}
@@ -80,40 +85,71 @@ module _ (m : ℕ) (message : List ℕ) (field : ℕ) (low : 3 ≤ field) (some-
   fragment-fits (suc k) =
       omega (arith, low, ap length (fragment-suc message field m k), length-take (field - 1) (drop (field - 2 + k * (field - 1)) (drop 1 message)))
 
--- ---- what can be coded can be sent, at field 512 under F0
-
-count-small : (n : ℕ) → n ≤ 5000 → countOf n 512 ≤ 17
-count-small n l =
-    by-le n 512
-    (λ s. omega (arith, count-one n 512 s))
-    (λ s. omega (arith, count-many n 512 s, ceiling-least (n + 1 - 512) 511 (omega arith)))
-
-module _ {command : ℕ} {d : List ℕ} (c : Codable command d) (l : length d ≤ 4999) where
-  abbrev pub report : Sending
-  report = record { message = codec-back c l .message; field = 512; control = λ k. record { reply = 3; compressed = true; hint = 7 }; marker = λ k. 1 }
-
-  report-able : Sendable (report .message) 512 0xF0
-  unfolding mostOf
-  report-able =
-      let b = codec-back c l in
-      record { field-ok = refl; mask-ok = refl; some = b .not-empty; short = b .fits; first-low = b .first-low; room = count-small (length (b .message)) (b .fits) }
-
-  report-accepted : Accepted 0xF0 report
-  report-accepted =
+-- what sender and frame ask of a message with its controls and markers
+module _ (m : ℕ) (x : Sending) (able : Sendable (x .message) (x .field) m) where
+  pub accepted-by : ((k : ℕ) → k < countIn x → (x .marker k ≡ 0x14 → ⊥) × (x .control k .reply ≤ 3) × (x .control k .hint ≤ 7)) → Accepted m x
+  accepted-by marked =
+      let low = field-low (x .field) (able .field-ok) in
       record {
-        sent = accepted-is (send-answer (report .message) 512 0xF0 0 report-able (count-pos (length (report .message)) 512));
-        framed = λ k h. accepted-is (build-answer 512 (fragmentOf (report .message) 512 0xF0 k) (report .control k) 1 refl
-            (fragment-some 0xF0 (report .message) 512 (omega arith) (report-able .some) k)
-            (fragment-fits 0xF0 (report .message) 512 (omega arith) (report-able .some) k)
-            (λ e. omega arith) (omega arith) (omega arith));
+        sent = accepted-is (send-answer (x .message) (x .field) m 0 able (count-pos (length (x .message)) (x .field)));
+        framed = λ k h. accepted-is (build-answer (x .field) (fragmentOf (x .message) (x .field) m k) (x .control k) (x .marker k) (able .field-ok)
+            (fragment-some m (x .message) (x .field) low (able .some) k)
+            (fragment-fits m (x .message) (x .field) low (able .some) k)
+            (marked k h .0) (marked k h .1) (marked k h .2));
       }
 
-  pub report-message : Message 0xF0 report (linesOf 0xF0 report)
+-- ---- what can be coded can be sent, where mask and field have room for 5,000 bytes
+
+-- a message of so many bytes takes at most one more than q fragments
+count-within : (n field q : ℕ) → 3 ≤ field → n + 1 ≤ field + q * (field - 1) → countOf n field ≤ suc q
+count-within n field q low fits =
+    by-le n field
+    (λ s. omega (arith, count-one n field s))
+    (λ s. omega (arith, count-many n field s, quotient (ceiling-least (n + 1 - field) (field - 1) (omega (arith, low)))))
+  where
+    quotient : ceiling (n + 1 - field) (field - 1) * (field - 1) < n + 1 - field + (field - 1) → ceiling (n + 1 - field) (field - 1) ≤ q
+    quotient h =
+        by-le (ceiling (n + 1 - field) (field - 1)) q
+        (λ l. l)
+        (λ l. absurd (omega (arith, h, fits, low, mul-le-mul-right (field - 1) l)))
+
+-- field and mask for any message
+pub record Ample (m field : ℕ) : Type 0 where
+  pub field-ok : fieldOk field ≡ true
+  pub mask-ok : maskOk m ≡ true
+  pub room : (n : ℕ) → n ≤ 5000 → countOf n field ≤ mostOf m
+
+pub ample-f0 : Ample 0xF0 512
+unfolding topOf mostOf
+ample-f0 = record { field-ok = refl; mask-ok = refl; room = λ n l. count-within n 512 16 (omega arith) (omega arith) }
+
+-- with one check bit, 129 fragments of 40 bytes
+pub ample-80 : Ample 0x80 40
+unfolding topOf mostOf
+ample-80 = record { field-ok = refl; mask-ok = refl; room = λ n l. count-within n 40 128 (omega arith) (omega arith) }
+
+module _ {m field : ℕ} (a : Ample m field) {command : ℕ} {d : List ℕ} (c : Codable command d) (l : length d ≤ 4999) where
+  abbrev pub report : Sending
+  report = record { message = codec-back c l .message; field = field; control = λ k. record { reply = 3; compressed = true; hint = 7 }; marker = λ k. 1 }
+
+  report-able : Sendable (report .message) field m
+  report-able =
+      let b = codec-back c l in
+      record { field-ok = a .field-ok; mask-ok = a .mask-ok; some = b .not-empty; short = b .fits; first-low = b .first-low; room = a .room (length (b .message)) (b .fits) }
+
+  pub report-message : Message m report (linesOf m report)
   report-message =
-      message-exists 0xF0 report report-accepted
+      message-exists m report (accepted-by m report report-able (λ k h. (λ e. omega arith, omega arith, omega arith)))
       (record { command = command; original = d; codable = c; typ = codec-back c l .typ; coded = codec-back c l .coded })
 
--- ---- generic bytes in three fragments, at field 3 under either mask
+-- ---- generic bytes with a high one
+
+module _ {d : List ℕ} (bytes : Bytes d) (high : anyHigh d ≡ true) (l : length d ≤ 4999) where
+  high-coded : CodedFrom (0x20 ∷ d)
+  unfolding codeOf genericOf pick
+  high-coded = record { command = 2; original = d; codable = generic bytes; typ = 0; coded = rw (le-ltb 4999 (length d) l, high) }
+
+-- ---- in three fragments, at field 3 under every mask
 
 abbrev raw : List ℕ
 raw = 0x80 ∷ 0x81 ∷ 0x14 ∷ 0xFF ∷ []
@@ -132,31 +168,65 @@ raw-bytes (suc (suc zero)) h = omega arith
 raw-bytes (suc (suc (suc zero))) h = omega arith
 raw-bytes (suc (suc (suc (suc k)))) h = absurd (omega arith)
 
-three-coded : CodedFrom (0x20 ∷ raw)
-unfolding codeOf genericOf anyHigh pick
-three-coded = record { command = 2; original = raw; codable = generic raw-bytes; typ = 0; coded = refl }
+raw-high : anyHigh raw ≡ true
+unfolding anyHigh
+raw-high = refl
 
-module _ (m : ℕ) (ok : maskOk m ≡ true) (room : 3 ≤ mostOf m) where
+module _ (m : ℕ) (ok : maskOk m ≡ true) where
   three-able : Sendable (0x20 ∷ raw) 3 m
   three-able =
-      record { field-ok = refl; mask-ok = ok; some = omega arith; short = omega arith; first-low = omega arith; room = omega (arith, room, three-count) }
-
-  three-accepted : Accepted m three
-  three-accepted =
-      record {
-        sent = accepted-is (send-answer (0x20 ∷ raw) 3 m 0 three-able (omega (arith, three-count)));
-        framed = λ k h. accepted-is (build-answer 3 (fragmentOf (0x20 ∷ raw) 3 m k) (three .control k) k refl
-            (fragment-some m (0x20 ∷ raw) 3 (omega arith) (omega arith) k)
-            (fragment-fits m (0x20 ∷ raw) 3 (omega arith) (omega arith) k)
-            (λ e. omega (arith, three-count)) (omega arith) (omega (arith, three-count)));
-      }
+      record { field-ok = refl; mask-ok = ok; some = omega arith; short = omega arith; first-low = omega arith; room = omega (arith, three-count, most-three m (mask-top m ok)) }
 
   pub three-message : Message m three (linesOf m three)
-  three-message = message-exists m three three-accepted three-coded
+  three-message =
+      message-exists m three
+      (accepted-by m three three-able (λ k h. (λ e. omega (arith, three-count), omega arith, omega (arith, three-count))))
+      (high-coded raw-bytes raw-high (omega arith))
 
   pub three-answers : answers (linesOf m three) ≡ some more ∷ some more ∷ some (done 5 (0x20 ∷ raw)) ∷ []
   unfolding linesOf linesFrom countOf ceiling pick
   three-answers = refl
+
+-- ---- in 129 fragments, at field 40 under 80
+
+pub highs : List ℕ
+highs = replicate 4999 0x80
+
+highs-size : length highs ≡ 4999
+unfolding highs
+highs-size = length-replicate {A = ℕ} 4999 0x80
+
+highs-bytes : Bytes highs
+unfolding highs
+highs-bytes i h = omega (arith, getD-replicate {A = ℕ} 4999 i 0x80 0 (omega (arith, highs-size)))
+
+highs-high : anyHigh highs ≡ true
+unfolding highs anyHigh
+highs-high = refl
+
+abbrev pub many : Sending
+many = record { message = 0x20 ∷ highs; field = 40; control = λ k. record { reply = 0; compressed = false; hint = 0 }; marker = λ k. 0xFF }
+
+pub many-count : countIn many ≡ 129
+unfolding countOf ceiling pick
+many-count = rw highs-size
+
+many-able : Sendable (0x20 ∷ highs) 40 0x80
+many-able =
+    record {
+      field-ok = ample-80 .field-ok;
+      mask-ok = ample-80 .mask-ok;
+      some = omega arith;
+      short = omega (arith, highs-size);
+      first-low = omega arith;
+      room = ample-80 .room (length (0x20 ∷ highs)) (omega (arith, highs-size));
+    }
+
+pub many-message : Message 0x80 many (linesOf 0x80 many)
+many-message =
+    message-exists 0x80 many
+    (accepted-by 0x80 many many-able (λ k h. (λ e. omega arith, omega arith, omega arith)))
+    (high-coded highs-bytes highs-high (omega (arith, highs-size)))
 
 -- ---- idle calls before, between and after
 
@@ -214,60 +284,61 @@ zeros-size : length zeros ≡ 5000
 unfolding zeros
 zeros-size = length-replicate {A = ℕ} 5000 0
 
-claimed : (m : ℕ) → newOf m ≡ answer (freshOf m) → Claim m (freshOf m) zeros
-claimed m new = demand-3 m (freshOf m) new zeros zeros-size
-
-new-f0 : newOf 0xF0 ≡ answer (freshOf 0xF0)
+new-for : (m : ℕ) → maskOk m ≡ true → newOf m ≡ answer (freshOf m)
 unfolding newOf pick
-new-f0 = refl
+new-for m ok = rw ok
 
-new-f8 : newOf 0xF8 ≡ answer (freshOf 0xF8)
-unfolding newOf pick
-new-f8 = refl
+claimed : (m : ℕ) → maskOk m ≡ true → Claim m (freshOf m) zeros
+claimed m ok = demand-3 m (freshOf m) (new-for m ok) zeros zeros-size
 
--- one of each kind
-abbrev six : List Sending
-six =
-    three
-    ∷ report (plain plain-text) (omega arith)
-    ∷ report (plain plain-binary) (omega arith)
-    ∷ report (plain plain-position) (omega arith)
-    ∷ report (plain plain-timestamped) (omega arith)
-    ∷ report (plain plain-message) (omega arith)
-    ∷ []
+-- one of each kind, as under F0 at field 512 and under 80 at field 40
+module _ {m field : ℕ} (a : Ample m field) where
+  abbrev pub six : List Sending
+  six =
+      three
+      ∷ report a (plain plain-text) (omega arith)
+      ∷ report a (plain plain-binary) (omega arith)
+      ∷ report a (plain plain-position) (omega arith)
+      ∷ report a (plain plain-timestamped) (omega arith)
+      ∷ report a (plain plain-message) (omega arith)
+      ∷ []
 
-room-f0 : 3 ≤ mostOf 0xF0
-unfolding mostOf
-room-f0 = omega arith
+  pub all-kinds : Messages m six (allLines m six)
+  unfolding allLines
+  all-kinds =
+      message-then (three-message m (a .mask-ok))
+      (message-then (report-message a (plain plain-text) (omega arith))
+      (message-then (report-message a (plain plain-binary) (omega arith))
+      (message-then (report-message a (plain plain-position) (omega arith))
+      (message-then (report-message a (plain plain-timestamped) (omega arith))
+      (message-then (report-message a (plain plain-message) (omega arith)) no-message)))))
 
-room-f8 : 3 ≤ mostOf 0xF8
-unfolding mostOf
-room-f8 = omega arith
+  -- after a message that was cut off and a reset, with idle calls before, between and after all frames
+  pub heard-all : Delivered all-kinds (freshOf m) zeros cut-off (with-idle (allLines m six))
+  heard-all = claimed m (a .mask-ok) .delivers cut-off refl six (allLines m six) all-kinds (with-idle (allLines m six)) (idle-mixed (allLines m six))
 
-pub all-kinds : Messages 0xF0 six (allLines 0xF0 six)
+  -- the first part of the claim, on the same list, with stores of zeros
+  pub forgotten : runOf (state (freshOf m) zeros) (cut-off ++ calls (with-idle (allLines m six)))
+      ≡ freshly (freshOf m) (λ past. zeros) [] (cut-off ++ calls (with-idle (allLines m six)))
+  forgotten = claimed m (a .mask-ok) .forgets (λ past. zeros) (λ past. zeros-size) (cut-off ++ calls (with-idle (allLines m six)))
+
+pub heard-f0 : Delivered (all-kinds ample-f0) (freshOf 0xF0) zeros cut-off (with-idle (allLines 0xF0 (six ample-f0)))
+heard-f0 = heard-all ample-f0
+
+pub heard-80 : Delivered (all-kinds ample-80) (freshOf 0x80) zeros cut-off (with-idle (allLines 0x80 (six ample-80)))
+heard-80 = heard-all ample-80
+
+-- one message alone
+pub alone : {m : ℕ} (x : Sending) → Message m x (linesOf m x) → Messages m (x ∷ []) (allLines m (x ∷ []))
 unfolding allLines
-all-kinds =
-    message-then (three-message 0xF0 refl room-f0)
-    (message-then (report-message (plain plain-text) (omega arith))
-    (message-then (report-message (plain plain-binary) (omega arith))
-    (message-then (report-message (plain plain-position) (omega arith))
-    (message-then (report-message (plain plain-timestamped) (omega arith))
-    (message-then (report-message (plain plain-message) (omega arith)) no-message)))))
+alone x message = message-then message no-message
 
--- after a message that was cut off and a reset, with idle calls before, between and after all frames
-pub heard-all : Delivered all-kinds (freshOf 0xF0) zeros cut-off (with-idle (allLines 0xF0 six))
-heard-all = claimed 0xF0 new-f0 .delivers cut-off refl six (allLines 0xF0 six) all-kinds (with-idle (allLines 0xF0 six)) (idle-mixed (allLines 0xF0 six))
+-- under every mask, 7 check bits among them, after a fragment below 80
+pub heard-three : (m : ℕ) (ok : maskOk m ≡ true) → Delivered (alone three (three-message m ok)) (freshOf m) zeros low-end (with-idle (allLines m (three ∷ [])))
+heard-three m ok =
+    claimed m ok .delivers low-end refl (three ∷ []) (allLines m (three ∷ [])) (alone three (three-message m ok)) (with-idle (allLines m (three ∷ []))) (idle-mixed (allLines m (three ∷ [])))
 
--- under F8, after a fragment below 80
-pub one : Messages 0xF8 (three ∷ []) (allLines 0xF8 (three ∷ []))
-unfolding allLines
-one = message-then (three-message 0xF8 refl room-f8) no-message
-
-pub heard-three : Delivered one (freshOf 0xF8) zeros low-end (with-idle (allLines 0xF8 (three ∷ [])))
-heard-three =
-    claimed 0xF8 new-f8 .delivers low-end refl (three ∷ []) (allLines 0xF8 (three ∷ [])) one (with-idle (allLines 0xF8 (three ∷ []))) (idle-mixed (allLines 0xF8 (three ∷ [])))
-
--- the first part of the claim, on the same list, with stores of zeros
-pub forgotten : runOf (state (freshOf 0xF0) zeros) (cut-off ++ calls (with-idle (allLines 0xF0 six)))
-    ≡ freshly (freshOf 0xF0) (λ past. zeros) [] (cut-off ++ calls (with-idle (allLines 0xF0 six)))
-forgotten = claimed 0xF0 new-f0 .forgets (λ past. zeros) (λ past. zeros-size) (cut-off ++ calls (with-idle (allLines 0xF0 six)))
+-- with one check bit, in 129 fragments
+pub heard-many : Delivered (alone many many-message) (freshOf 0x80) zeros low-end (with-idle (allLines 0x80 (many ∷ [])))
+heard-many =
+    claimed 0x80 (ample-80 .mask-ok) .delivers low-end refl (many ∷ []) (allLines 0x80 (many ∷ [])) (alone many many-message) (with-idle (allLines 0x80 (many ∷ []))) (idle-mixed (allLines 0x80 (many ∷ [])))

@@ -26,6 +26,12 @@ module _ (mask : ℕ) (top : Top mask) where
   pub most-few : mostOf mask ≤ 129
   most-few = omega (arith, most-is, free-few)
 
+  -- every mask has room for three fragments
+  pub most-three : 3 ≤ mostOf mask
+  most-three =
+      let h : 2 ^ 1 ≤ 2 ^ (top .free) = pow-mono (top .some-free) in
+      omega (arith, most-is, h)
+
 -- the mask of w check bits is accepted, and the largest count under it
 pub mask-for : (w : ℕ) → 1 ≤ w → w ≤ 7 → (maskOk (maskFor w) ≡ true) × (mostOf (maskFor w) ≡ 2 ^ (8 - w) + 1)
 mask-for w l h = (mask-accepted w l h, most-is (maskFor w) (top-for w l h))
