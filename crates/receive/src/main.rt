@@ -37,7 +37,7 @@ fn main() {
     let Arguments::Two(field, mask) = numbers() else {
         io::write_all(
             1,
-            b"usage: receive FIELD MASK (bytes of a frame's field, 3 to 512; mask of the check byte, 128, 192, 224, 240 (HF), 248 (FM), 252 or 254)\n",
+            b"usage: receive FIELD MASK (bytes of a frame's field, 3 to 512; mask of 1 to 7 check bits: 128, 192, 224, 240 (HF), 248 (FM), 252 or 254)\n",
         );
         return;
     };

@@ -42,7 +42,7 @@ pub const MAX_DATA: usize = 4999;
 
 pub const MAX_MESSAGE: usize = 5000;
 
-// The masks of HF and FM.
+// Two of the masks: HF has four check bits and FM five.
 pub const HF_CRC_MASK: u8 = 0xF0;
 
 pub const FM_CRC_MASK: u8 = 0xF8;

@@ -84,7 +84,8 @@ splitOf (first ∷ rest) field mask =
 
 -- ---- the answer of `fragment`
 
--- "the mask must leave room for count − 2": the largest count
+-- "the mask must leave room for count − 2": the largest count. For "With w check bits the sender accepts counts to 2^(8 − w) + 1" (02, E11) see
+-- `mask-for` in proofs/MaskLaws
 unfoldable pub mostOf : ℕ → ℕ
 mostOf mask = 255 - mask + 2
 
