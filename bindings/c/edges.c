@@ -1,9 +1,9 @@
 /*
  * Every output length from 0 to one more than the answer's, every refusal's number, frames and fragments of every length, texts
- * with white space and the bytes beside it at their edges, and receiver states that no call leads to. Every field of every answer
- * is looked at, flags as the bytes that they are, and every input for being unchanged. Every buffer has its exact length on the
- * heap, so that valgrind sees a byte read or written beside it. Prints how many calls were held against what is to be expected;
- * the exit status is 1 where one differs.
+ * with white space and the bytes beside it at their edges, every mask with its longest messages and its worked examples, and
+ * receiver states that no call leads to. Every field of every answer is looked at, flags as the bytes that they are, and every
+ * input for being unchanged. Every buffer has its exact length on the heap, so that valgrind sees a byte read or written beside
+ * it. Prints how many calls were held against what is to be expected; the exit status is 1 where one differs.
  */
 #include "xara.h"
 
@@ -15,6 +15,17 @@
 
 /* A flag of an answer as the byte that it is, which may be any byte of a wrong library. */
 #define FLAG(type, answer, field) byte_at(&(answer), offsetof(type, field))
+
+/* The masks of 1 to 7 check bits, and the most fragments of a message that is sent under each. */
+#define MASKS 7
+static const struct {
+    uint8_t mask;
+    size_t most;
+} masks[MASKS] = {{0x80, 129}, {0xC0, 65}, {0xE0, 33}, {0xF0, 17}, {0xF8, 9}, {0xFC, 5}, {0xFE, 3}};
+
+_Static_assert(XARA_MASK(4) == XARA_MASK_HF && XARA_MASK(5) == XARA_MASK_FM, "HF has 4 check bits, FM has 5");
+_Static_assert(XARA_MAX_FRAGMENTS(XARA_MASK_HF) == XARA_MAX_FRAGMENTS_HF, "the most fragments under HF");
+_Static_assert(XARA_MAX_FRAGMENTS(XARA_MASK_HF | XARA_MASK_FM) == XARA_MAX_FRAGMENTS_FM, "the most fragments under FM");
 
 static unsigned long calls, wrong;
 
@@ -448,12 +459,20 @@ static void field_refusals(void)
     free(out);
 }
 
-/* Every mask but the two, which is refused before an empty message. */
+static bool is_mask(unsigned mask)
+{
+    for (size_t i = 0; i < MASKS; i++)
+        if (masks[i].mask == mask)
+            return true;
+    return false;
+}
+
+/* Every mask but the seven, which is refused before an empty message. */
 static void mask_refusals(void)
 {
     uint8_t *none = filled(0), *out = filled(600);
     for (unsigned mask = 0; mask < 256; mask++) {
-        uint8_t refusal = mask == 0xF0 || mask == 0xF8 ? XARA_REFUSAL_EMPTY : XARA_REFUSAL_MASK;
+        uint8_t refusal = is_mask(mask) ? XARA_REFUSAL_EMPTY : XARA_REFUSAL_MASK;
         expect(answered(xara_fragment(none, 0, 5, (uint8_t)mask, 0, out, 600), refusal, 0), "mask", mask);
     }
     expect(untouched(out, 600), "output", 0);
@@ -472,15 +491,79 @@ static void not_sent(uint8_t first, size_t n, size_t field, uint8_t mask, size_t
     free(out);
 }
 
-/* Too long a message, a first byte of 80, one fragment too many under each mask, and a number after the last. */
+/* Too long a message, a first byte of 80, and a number after the last. */
 static void sender_refusals(void)
 {
     expect(answered(xara_count_for_field(XARA_MAX_MESSAGE + 1, 512), XARA_REFUSAL_TOO_LONG, 0), "count", XARA_MAX_MESSAGE + 1);
     not_sent(0x40, XARA_MAX_MESSAGE + 1, 512, XARA_MASK_HF, 0, XARA_REFUSAL_TOO_LONG);
     not_sent(0x80, 9, 5, XARA_MASK_HF, 0, XARA_REFUSAL_FIRST_BYTE);
-    not_sent(0x40, 35, 3, XARA_MASK_HF, 0, XARA_REFUSAL_COUNT);
-    not_sent(0x40, 19, 3, XARA_MASK_FM, 0, XARA_REFUSAL_COUNT);
     not_sent(0x40, 9, 5, XARA_MASK_HF, SIZE_MAX, XARA_REFUSAL_NUMBER);
+}
+
+/* The header's masks and counts, by the number of check bits. */
+static void mask_macros(void)
+{
+    for (size_t i = 0; i < MASKS; i++) {
+        expect(XARA_MASK(i + 1) == masks[i].mask, "mask of check bits", i + 1);
+        expect(XARA_MAX_FRAGMENTS(XARA_MASK(i + 1)) == masks[i].most, "most fragments", i + 1);
+    }
+}
+
+/* The last fragment of a message of so many bytes is sent. */
+static void last_sent(size_t n, size_t field, uint8_t mask)
+{
+    size_t k = (n - 1) / (field - 1), length = 1 + n - k * (field - 1);
+    uint8_t *message = filled(n), *out = filled(length);
+    message[0] = 0x40;
+    expect(answered(xara_fragment(message, n, field, mask, k, out, length), 0, length), "last fragment", n);
+    expect(out[0] == 0x40 && untouched(out + 1, length - 1), "last fragment's bytes", n);
+    expect(message[0] == 0x40 && untouched(message + 1, n - 1), "message to send", n);
+    free(message);
+    free(out);
+}
+
+/* Under each mask the longest message at some fields, 5,000 bytes at most: its last fragment is sent. A byte more is refused. */
+static void mask_limits(void)
+{
+    static const size_t fields[] = {3, 4, 40, 512};
+    for (size_t i = 0; i < 4 * MASKS; i++) {
+        uint8_t mask = masks[i / 4].mask;
+        size_t field = fields[i % 4], room = masks[i / 4].most * (field - 1);
+        bool all = room >= XARA_MAX_MESSAGE;
+        size_t longest = all ? XARA_MAX_MESSAGE : room;
+        last_sent(longest, field, mask);
+        not_sent(0x40, longest + 1, field, mask, SIZE_MAX, all ? XARA_REFUSAL_TOO_LONG : XARA_REFUSAL_COUNT);
+    }
+}
+
+/* Fragment k of the message of document 01 is these bytes, or is refused with 12 where there are none. */
+static void sent(size_t field, uint8_t mask, size_t k, const uint8_t *fragment, size_t n)
+{
+    static const uint8_t message[] = {0x40, 0xAC, 0xB7, 0x01, 0x00, 0x10, 0x40};
+    uint8_t *lent = copied(message, sizeof message), *out = filled(field);
+    XaraAnswer a = xara_fragment(lent, sizeof message, field, mask, k, out, field);
+    expect(answered(a, n == 0 ? XARA_REFUSAL_COUNT : 0, n) && written(out, field, fragment, n), "worked example", mask);
+    expect(memcmp(lent, message, sizeof message) == 0, "worked example's message", mask);
+    free(lent);
+    free(out);
+}
+
+/* The first fragment of that message at field 5 and the second, and the first of four at field 3, for which FE has no room. */
+static void worked_examples(void)
+{
+    static const uint8_t second[] = {0x40, 0x00, 0x10, 0x40};
+    static const uint8_t at_5[MASKS][5] = {{0xC0, 0x00, 0xAC, 0xB7, 0x01}, {0xC0, 0x40, 0xAC, 0xB7, 0x01},
+                                           {0xC0, 0x40, 0xAC, 0xB7, 0x01}, {0xC0, 0x40, 0xAC, 0xB7, 0x01},
+                                           {0xC0, 0x48, 0xAC, 0xB7, 0x01}, {0xC0, 0x4C, 0xAC, 0xB7, 0x01},
+                                           {0xC0, 0x4C, 0xAC, 0xB7, 0x01}};
+    static const uint8_t at_3[MASKS][3] = {{0xC0, 0x02, 0xAC}, {0xC0, 0x42, 0xAC}, {0xC0, 0x42, 0xAC}, {0xC0, 0x42, 0xAC},
+                                           {0xC0, 0x4A, 0xAC}, {0xC0, 0x4E, 0xAC}, {0}};
+    expect(answered(xara_count_for_field(7, 3), 0, 4), "worked example", 0);
+    for (size_t i = 0; i < MASKS; i++) {
+        sent(5, masks[i].mask, 0, at_5[i], 5);
+        sent(5, masks[i].mask, 1, second, 4);
+        sent(3, masks[i].mask, 0, at_3[i], masks[i].mask == 0xFE ? 0 : 3);
+    }
 }
 
 /* The frame of a fragment of so many bytes is refused with this at field 5, and nothing is changed. */
@@ -533,17 +616,18 @@ static void state_refusals(void)
     }
 }
 
-/* Masks that no receiver has: 9. A new receiver that is refused is 0 in every field. */
+/* Masks that no receiver has: 9, whatever else it has. A new receiver that is refused is 0 in every field. */
 static void receiver_masks(void)
 {
     for (unsigned i = 0; i < 256; i++) {
         uint8_t mask = (uint8_t)i;
-        if (mask == XARA_MASK_HF || mask == XARA_MASK_FM) {
+        if (is_mask(mask)) {
             expect(fresh(xara_receiver_new(mask), 0, (XaraReceiver){0, 0, 0, mask, 0}), "new", i);
             continue;
         }
         expect(fresh(xara_receiver_new(mask), XARA_REFUSAL_MASK, (XaraReceiver){0, 0, 0, 0, 0}), "new refused", i);
         refused((XaraReceiver){5000, 255, 5, mask, (uint8_t)(i * 7)}, XARA_STORE, 0, XARA_REFUSAL_MASK);
+        refused((XaraReceiver){0, 0, 0, mask, 0}, XARA_STORE, 5, XARA_REFUSAL_MASK);
     }
 }
 
@@ -579,12 +663,12 @@ static void overflow_states(void)
 }
 
 /* A state without overflow that a caller made up: a full one drops the fragment and forgets, another takes it in. */
-static void made_up(size_t held, size_t nfrag)
+static void made_up(size_t held, size_t nfrag, uint8_t mask)
 {
     uint8_t *store = filled(XARA_STORE), *f = filled(3);
     f[0] = 0x80;
-    XaraReceiver state = {held, nfrag, 7, XARA_MASK_HF, 0}, full = {0, 0, 7, XARA_MASK_HF, 1};
-    XaraReceiver grown = {held + 2, nfrag + 1, 7, XARA_MASK_HF, 0}, begun = {2, 1, SENTINEL, XARA_MASK_HF, 0};
+    XaraReceiver state = {held, nfrag, 7, mask, 0}, full = {0, 0, 7, mask, 1};
+    XaraReceiver grown = {held + 2, nfrag + 1, 7, mask, 0}, begun = {2, 1, SENTINEL, mask, 0};
     bool over = held != 0 && (nfrag == 255 || held > 4998);
     XaraPushed a = xara_receiver_join(state, store, XARA_STORE, f, 3, 3);
     if (over)
@@ -599,8 +683,8 @@ static void made_up(size_t held, size_t nfrag)
 static void made_up_states(void)
 {
     size_t held[] = {0, 1, 2, 2500, 4997, 4998, 4999, 5000}, nfrag[] = {0, 1, 2, 128, 253, 254, 255};
-    for (size_t i = 0; i < 8 * 7; i++)
-        made_up(held[i % 8], nfrag[i / 8]);
+    for (size_t i = 0; i < 8 * 7 * MASKS; i++)
+        made_up(held[i % 8], nfrag[i / 8 % 7], masks[i / 56].mask);
 }
 
 /* Frames of every length but the right one are dropped; of that one, too, where they hold no fragment. */
@@ -649,6 +733,78 @@ static void whole_messages(void)
     free(last);
 }
 
+/* All fragments of a message at field 3 to a receiver, with these bits of the check byte changed: the answer to the last. */
+static XaraPushed heard(const uint8_t *message, size_t n, uint8_t mask, uint8_t changed, uint8_t *store)
+{
+    XaraPushed a = {.kind = XARA_MORE, .receiver = xara_receiver_new(mask).receiver};
+    for (size_t k = 0; k < n / 2; k++) {
+        uint8_t *f = filled(3), kept[3];
+        xara_fragment(message, n, 3, mask, k, f, 3);
+        f[1] ^= k == 0 ? changed : 0;
+        memcpy(kept, f, 3);
+        expect(a.kind == XARA_MORE, "message goes on", k);
+        a = xara_receiver_join(a.receiver, store, XARA_STORE, f, 3, 3);
+        expect(memcmp(f, kept, 3) == 0, "fragment", k);
+        free(f);
+    }
+    return a;
+}
+
+/* A message of full fragments is done. With a bit of its check byte changed it is dropped if the bit is the mask's, else done. */
+static void mask_journey(const uint8_t *message, size_t n, uint8_t mask)
+{
+    uint8_t *lent = copied(message, n), *store = filled(XARA_STORE);
+    size_t count = n / 2;
+    uint8_t check = (uint8_t)((count - 2) | (xara_crc16_genibus(lent, n) >> 8 & mask));
+    XaraPushed a = heard(lent, n, mask, 0, store);
+    expect(pushed(a, XARA_DONE, 0, n, (XaraReceiver){0, count, check, mask, 0}), "journey", mask);
+    expect(written(store, XARA_STORE, message, n), "journey's message", mask);
+    for (unsigned bit = 1; bit < 256; bit *= 2) {
+        XaraReceiver after = {0, count, (uint8_t)(check ^ bit), mask, 0};
+        a = heard(lent, n, mask, (uint8_t)bit, store);
+        expect(mask & bit ? dropped(a, after) : pushed(a, XARA_DONE, 0, n, after), "changed check byte", bit);
+    }
+    expect(memcmp(lent, message, n) == 0, "message to send", mask);
+    free(lent);
+    free(store);
+}
+
+/* A message of 255 fragments, more than any sender's, is done, whatever the mask. */
+static void most_heard(uint8_t mask)
+{
+    uint8_t *message = filled(XARA_RX_MAX_FRAGMENTS + 1), *store = filled(XARA_STORE), *f = filled(3);
+    message[0] = 0x40;
+    uint8_t check = (uint8_t)(xara_crc16_genibus(message, XARA_RX_MAX_FRAGMENTS + 1) >> 8 & mask);
+    f[0] = 0xC0;
+    f[1] = check;
+    XaraPushed a = xara_receiver_join(xara_receiver_new(mask).receiver, store, XARA_STORE, f, 3, 3);
+    f[1] = SENTINEL;
+    for (size_t k = 1; k < XARA_RX_MAX_FRAGMENTS; k++) {
+        expect(pushed(a, XARA_MORE, 0, 0, (XaraReceiver){k + 1, k, check, mask, 0}), "one of many", k);
+        f[0] = k + 1 < XARA_RX_MAX_FRAGMENTS ? 0xC0 : 0x40;
+        a = xara_receiver_join(a.receiver, store, XARA_STORE, f, 3, 2);
+    }
+    expect(pushed(a, XARA_DONE, 0, 256, (XaraReceiver){0, XARA_RX_MAX_FRAGMENTS, check, mask, 0}), "last of many", mask);
+    expect(written(store, XARA_STORE, message, XARA_RX_MAX_FRAGMENTS + 1), "message of many", mask);
+    free(message);
+    free(store);
+    free(f);
+}
+
+/* Under each mask a message of as many fragments as it leaves room for, into every room and to a receiver, and one of 255. */
+static void mask_journeys(void)
+{
+    uint8_t message[258];
+    for (size_t i = 0; i < sizeof message; i++)
+        message[i] = (uint8_t)(i * 37 % 128);
+    for (size_t i = 0; i < MASKS; i++) {
+        size_t most = masks[i].most;
+        sender_rooms(message, 2 * most, 3, masks[i].mask, most);
+        mask_journey(message, 2 * most, masks[i].mask);
+        most_heard(masks[i].mask);
+    }
+}
+
 int main(void)
 {
     coding_rooms();
@@ -663,6 +819,9 @@ int main(void)
     field_refusals();
     mask_refusals();
     sender_refusals();
+    mask_macros();
+    mask_limits();
+    worked_examples();
     frame_refusals();
     state_refusals();
     receiver_masks();
@@ -671,6 +830,7 @@ int main(void)
     made_up_states();
     frame_lengths();
     whole_messages();
+    mask_journeys();
     printf("%lu compared, %lu differ\n", calls, wrong);
     return wrong != 0;
 }

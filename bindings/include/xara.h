@@ -34,9 +34,14 @@
  *   of no bytes.
  *
  * What the air can still do, since the format leaves no room to find it out:
- * - A frame that is lost may go unnoticed. The first of several fragments carries four check bits of the whole message under mask
- *   F0, and five under F8. They find 15 of 16 and 31 of 32 faults. Of 4,000 messages that were sent with one middle frame lost,
- *   232 were still answered with XARA_DONE under F0 and 122 under F8, each with other bytes than were sent.
+ * - A frame that is lost may go unnoticed. The first of several fragments carries check bits of the whole message, as many as the
+ *   mask has, and w check bits miss about one fault in 2^w. Of 4,000 messages that were sent under each mask with one middle
+ *   frame lost, this many were still answered with XARA_DONE, each with other bytes than were sent:
+ *
+ *     mask           80   C0   E0   F0   F8   FC   FE
+ *     check bits      1    2    3    4    5    6    7
+ *     still done  1,977  966  476  232  122   61   28
+ *
  * - A message of one fragment carries no check bits, and neither does the last of several fragments. Heard alone, by a receiver
  *   that holds nothing and is not in overflow, it is always answered with XARA_DONE.
  * - A damaged frame is taken for what it says: xara_receiver_push does not look at the CRC at the frame's end.
@@ -68,11 +73,16 @@ extern "C" {
 #define XARA_FRAME_EXTRA 3 /* a frame has field + 3 bytes */
 #define XARA_MAX_FRAME (XARA_MAX_FIELD + XARA_FRAME_EXTRA)
 
-/* The masks: which bits of the check byte are the CRC's. A sender and its receiver use the same. */
-#define XARA_MASK_HF 0xF0u
-#define XARA_MASK_FM 0xF8u
+/*
+ * The masks: which bits of the check byte are the CRC's. They are the top 1 to 7 bits of a byte. More check bits find more
+ * faults, fewer leave room for more fragments. A sender and its receiver use the same.
+ */
+#define XARA_MASK(w) (0x100u - (1u << (8 - (w)))) /* 1 to 7 check bits */
+#define XARA_MASK_HF 0xF0u                        /* 4 check bits */
+#define XARA_MASK_FM 0xF8u                        /* 5 check bits */
 
 /* The most fragments of a message that is sent under each mask, and of one that is heard. */
+#define XARA_MAX_FRAGMENTS(mask) (257u - (mask)) /* 129, 65, 33, 17, 9, 5, 3 for 1 to 7 check bits */
 #define XARA_MAX_FRAGMENTS_HF 17
 #define XARA_MAX_FRAGMENTS_FM 9
 #define XARA_RX_MAX_FRAGMENTS 255
@@ -107,7 +117,7 @@ enum xara_refusal {
     XARA_REFUSAL_OUTPUT = 6,      /* the lent output is shorter than the answer */
     XARA_REFUSAL_NOT_DECODED = 7, /* the message can't be decoded */
     XARA_REFUSAL_FIELD = 8,       /* the field is outside 3 to 512 */
-    XARA_REFUSAL_MASK = 9,        /* the mask is not F0 or F8 */
+    XARA_REFUSAL_MASK = 9,        /* the mask is not the top 1 to 7 bits of a byte */
     XARA_REFUSAL_EMPTY = 10,      /* the message to send is empty */
     XARA_REFUSAL_FIRST_BYTE = 11, /* its first byte is 80 or more */
     XARA_REFUSAL_COUNT = 12,      /* it takes more fragments than the mask leaves room for */
@@ -154,7 +164,7 @@ typedef struct XaraReceiver {
     size_t held;      /* bytes of the store that are held, to 5,000; 0 where no message has begun */
     size_t nfrag;     /* fragments of the message that is held, to 255; where none is held, 0 or those of the last message */
     uint8_t count;    /* the check byte of the message that is held, or of an earlier one; 0 in a new receiver, kept by a reset */
-    uint8_t crc_mask; /* XARA_MASK_HF or XARA_MASK_FM */
+    uint8_t crc_mask; /* a mask of 1 to 7 check bits, as XARA_MASK_HF */
     uint8_t overflow; /* 0 or 1, and any byte but 0 is taken for 1: the rest of a message that is too long is dropped */
 } XaraReceiver;
 
@@ -285,7 +295,7 @@ static inline const char *xara_refusal_text(uint8_t refusal)
     case XARA_REFUSAL_FIELD:
         return "the field is outside 3 to 512";
     case XARA_REFUSAL_MASK:
-        return "the mask is not F0 or F8";
+        return "the mask is not the top 1 to 7 bits of a byte";
     case XARA_REFUSAL_EMPTY:
         return "the message to send is empty";
     case XARA_REFUSAL_FIRST_BYTE:

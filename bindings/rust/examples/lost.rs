@@ -1,9 +1,9 @@
 //! What comes of messages on the air when a frame is lost: 4,000 messages of random bytes under each mask, every frame but one
-//! pushed to a new receiver. Nothing of this is a fault of the receiver: the format has four or five check bits for a message.
+//! pushed to a new receiver. Nothing of this is a fault of the receiver: the format has 1 to 7 check bits for a message.
 use xara::{Control, Encoder, Frame, Heard, Mask, Reassembler, Refusal};
 
 const MESSAGES: usize = 4_000;
-const FIELD: usize = 12;
+const SMALLEST_FIELD: usize = 12;
 
 /// Xorshift of 64 bits, the same numbers in each run.
 struct Numbers(u64);
@@ -24,20 +24,25 @@ struct Counts {
     all_but_last: usize,
 }
 
-/// The frames of a message of 30 to 79 random bytes: three at least, at most eight.
+/// The frames of a message of 30 to 79 random bytes, three at least. The field is the smallest from 12 on at which the mask
+/// leaves room for all of them: always 12 under one to five check bits, 12 to 17 under six and 12 to 28 under seven.
 fn frames(numbers: &mut Numbers, mask: Mask) -> Result<Vec<Frame>, Refusal> {
     let data: Vec<u8> = (0..30 + numbers.next(50)).map(|_| numbers.next(256) as u8).collect();
     let mut encoder = Encoder::new();
     let message = encoder.encode(xara::Command::Generic, &data)?;
-    Ok(xara::fragments(message.bytes, FIELD, mask)?.frames(Control::default(), 0x01)?.collect())
+    let mut field = SMALLEST_FIELD;
+    while xara::count_for_field(message.len(), field)? > mask.max_fragments() {
+        field += 1;
+    }
+    Ok(xara::fragments(message.bytes, field, mask)?.frames(Control::default(), 0x01)?.collect())
 }
 
-/// Whether the last of these frames is answered with Done by a new receiver.
+/// Whether the last of these frames, which have field + 3 bytes each, is answered with Done by a new receiver.
 fn done(frames: &[&Frame], mask: Mask) -> Result<bool, Refusal> {
     let mut receiver = Reassembler::new(mask);
     let mut done = false;
     for frame in frames {
-        done = matches!(receiver.push(frame, FIELD)?, Heard::Done(_));
+        done = matches!(receiver.push(frame, frame.len() - 3)?, Heard::Done(_));
     }
     Ok(done)
 }
@@ -56,14 +61,14 @@ fn lost(mask: Mask) -> Result<Counts, Refusal> {
 }
 
 fn main() -> Result<(), Refusal> {
-    for (name, mask) in [("F0", Mask::Hf), ("F8", Mask::Fm)] {
-        let counts = lost(mask)?;
+    for mask in Mask::ALL {
+        let (name, counts) = (mask.byte(), lost(mask)?);
         println!(
-            "{name}: of {MESSAGES} messages with one middle frame lost {} are Done, with other bytes",
+            "{name:02X}: of {MESSAGES} messages with one middle frame lost {} are Done, with other bytes",
             counts.middle
         );
         println!(
-            "{name}: of {MESSAGES} messages of which only the last frame is heard {} are Done",
+            "{name:02X}: of {MESSAGES} messages of which only the last frame is heard {} are Done",
             counts.all_but_last
         );
     }

@@ -34,7 +34,7 @@ pub enum Refusal {
     NotDecoded,
     /// 8: the field is outside 3 to 512.
     Field,
-    /// 9: the mask is not F0 or F8.
+    /// 9: the mask is not the top 1 to 7 bits of a byte.
     Mask,
     /// 10: the message to send is empty.
     Empty,
@@ -104,7 +104,7 @@ impl fmt::Display for Refusal {
             Refusal::Output => "the output is shorter than the answer",
             Refusal::NotDecoded => "the message can't be decoded",
             Refusal::Field => "the field is outside 3 to 512",
-            Refusal::Mask => "the mask is not F0 or F8",
+            Refusal::Mask => "the mask is not the top 1 to 7 bits of a byte",
             Refusal::Empty => "the message to send is empty",
             Refusal::FirstByte => "the first byte of the message to send is 80 or more",
             Refusal::Count => "the message takes more fragments than the mask leaves room for",

@@ -88,25 +88,39 @@ impl AprsType {
     }
 }
 
-/// Which bits of the check byte are the CRC's. A sender and its receiver use the same.
+/// Which bits of the check byte are the CRC's: the top 1 to 7. More check bits find more faults, fewer leave room for more
+/// fragments. A sender and its receiver use the same.
 ///
 /// ```
 /// use xara::{Mask, Refusal};
 ///
 /// assert_eq!(Mask::try_from(0xF8), Ok(Mask::Fm));
-/// assert_eq!(Mask::try_from(0xFC), Err(Refusal::Mask));
+/// assert_eq!(Mask::try_from(0xB0), Err(Refusal::Mask));
 /// ```
 #[derive(Clone, Copy, Debug, Default, PartialEq, Eq, Hash)]
 #[non_exhaustive]
 pub enum Mask {
+    /// One bit of the CRC, up to 129 fragments.
+    Bits1 = 0x80,
+    /// Two bits of the CRC, up to 65 fragments.
+    Bits2 = 0xC0,
+    /// Three bits of the CRC, up to 33 fragments.
+    Bits3 = 0xE0,
     /// Four bits of the CRC, up to 17 fragments.
     #[default]
     Hf = 0xF0,
     /// Five bits of the CRC, up to 9 fragments.
     Fm = 0xF8,
+    /// Six bits of the CRC, up to 5 fragments.
+    Bits6 = 0xFC,
+    /// Seven bits of the CRC, up to 3 fragments.
+    Bits7 = 0xFE,
 }
 
 impl Mask {
+    /// The masks of 1 to 7 check bits, in this order.
+    pub const ALL: [Self; 7] = [Self::Bits1, Self::Bits2, Self::Bits3, Self::Hf, Self::Fm, Self::Bits6, Self::Bits7];
+
     /// The byte.
     pub const fn byte(self) -> u8 {
         self as u8
@@ -114,16 +128,36 @@ impl Mask {
 
     /// The mask with a byte.
     pub const fn from_byte(b: u8) -> Option<Self> {
-        match b {
-            0xF0 => Some(Self::Hf),
-            0xF8 => Some(Self::Fm),
+        match Self::with_bits(b.leading_ones()) {
+            Some(mask) if mask.byte() == b => Some(mask),
+            _ => None,
+        }
+    }
+
+    /// How many check bits it has.
+    pub const fn bits(self) -> u32 {
+        self.byte().count_ones()
+    }
+
+    /// The mask with so many check bits, 1 to 7.
+    ///
+    /// ```
+    /// use xara::Mask;
+    ///
+    /// assert_eq!(Mask::with_bits(4), Some(Mask::Hf));
+    /// assert_eq!(Mask::with_bits(7).map(Mask::max_fragments), Some(3));
+    /// assert_eq!(Mask::with_bits(8), None);
+    /// ```
+    pub const fn with_bits(w: u32) -> Option<Self> {
+        match w {
+            1..=7 => Some(Self::ALL[w as usize - 1]),
             _ => None,
         }
     }
 
     /// The most fragments of a message that is sent under it.
     pub const fn max_fragments(self) -> usize {
-        255 - self as usize + 2
+        257 - self as usize
     }
 }
 

@@ -1,6 +1,6 @@
 //! Reports that go all the way, by the types that own their buffers.
 
-use xara::{AprsType, Command, Control, Decoder, Encoder, Heard, Mask, Reassembler, Summary};
+use xara::{AprsType, Command, Control, Decoder, Encoder, Heard, Mask, Reassembler, Refusal, Summary};
 
 /// A position report: K1A-9 to APRS by WIDE1-1, which has repeated it.
 fn report() -> Vec<u8> {
@@ -43,13 +43,35 @@ fn a_report_arrives() {
     assert_eq!(xara::summary(Command::Ax25, &report()), Ok(summary));
     let message = encoder.encode(Command::Ax25, &report()).expect("it is coded");
     assert_eq!(message.aprs_type, AprsType::Position);
-    for mask in [Mask::Hf, Mask::Fm] {
+    for mask in Mask::ALL {
         for field in [8, 10, 20, 64, 512] {
             let mut receiver = Reassembler::new(mask);
             let count = xara::count_for_field(message.len(), field).expect("accepted");
+            if count > mask.max_fragments() {
+                assert_eq!(xara::fragments(&message, field, mask).err(), Some(Refusal::Count));
+                continue;
+            }
             let whole = ("m".repeat(count - 1) + "D", Some([&[0], &report()[..]].concat()));
             assert_eq!(heard(&message, field, mask, &mut receiver, usize::MAX), whole);
             assert_eq!(heard(&message, field, mask, &mut receiver, usize::MAX), whole);
+        }
+    }
+}
+
+/// A message of as many fragments as the mask leaves room for arrives, or one of 5,000 bytes; a byte more is refused.
+#[test]
+fn the_longest_messages_arrive() {
+    for mask in Mask::ALL {
+        for field in [3, 40, 512] {
+            let most = mask.max_fragments() * (field - 1);
+            let (length, refusal) =
+                if most < xara::MAX_MESSAGE { (most, Refusal::Count) } else { (xara::MAX_MESSAGE, Refusal::TooLong) };
+            let message: Vec<u8> = [0x20].into_iter().chain((1..=length).map(|i| (i * 37) as u8)).collect();
+            let whole = [&[2], &message[1..length]].concat();
+            let said = "m".repeat(length.div_ceil(field - 1) - 1) + "D";
+            let mut receiver = Reassembler::new(mask);
+            assert_eq!(heard(&message[..length], field, mask, &mut receiver, usize::MAX), (said, Some(whole)));
+            assert_eq!(xara::fragments(&message, field, mask).err(), Some(refusal));
         }
     }
 }
@@ -172,7 +194,7 @@ fn a_long_frame_arrives() {
 
 #[test]
 fn new_receivers() {
-    for mask in [Mask::Hf, Mask::Fm] {
+    for mask in Mask::ALL {
         let made = Reassembler::with_crc_mask(mask.byte()).expect("the mask is accepted");
         assert_eq!(Reassembler::new(mask).state(), made.state());
         assert_eq!(made.state().crc_mask, mask.byte());
@@ -184,10 +206,10 @@ fn new_receivers() {
 #[test]
 fn nothing_at_all() {
     assert_eq!(xara::crc16_genibus(&[]), 0);
-    assert_eq!(xara::encode(Command::Generic, &[], &mut []), Err(xara::Refusal::Output));
+    assert_eq!(xara::encode(Command::Generic, &[], &mut []), Err(Refusal::Output));
     assert_eq!(xara::decode(&[0x21], &mut []), Ok((Command::Generic, &[][..])));
-    assert_eq!(xara::fragment(&[], 3, Mask::Hf, 0, &mut []), Err(xara::Refusal::Empty));
-    assert_eq!(xara::build_frame(3, &[], Control::default(), 0, &mut []), Err(xara::Refusal::Fragment));
+    assert_eq!(xara::fragment(&[], 3, Mask::Hf, 0, &mut []), Err(Refusal::Empty));
+    assert_eq!(xara::build_frame(3, &[], Control::default(), 0, &mut []), Err(Refusal::Fragment));
     assert_eq!(Reassembler::default().join(&[], 0), Ok(Heard::Dropped));
     assert_eq!(Reassembler::default().push(&[], 3), Ok(Heard::Dropped));
 }

@@ -71,11 +71,16 @@ fn sender() {
     assert_eq!(cut(&[], 3, Mask::Fm, 0), Err(Refusal::Empty));
     assert_eq!(cut(&[0x80; 5001], 512, Mask::Hf, 0), Err(Refusal::TooLong));
     assert_eq!(cut(&[0x80; 5000], 3, Mask::Hf, 0), Err(Refusal::FirstByte));
-    for (mask, most) in [(Mask::Hf, 34), (Mask::Fm, 18)] {
+}
+
+/// The longest message at field 3 under each mask, a number after its last fragment, and a byte more.
+#[test]
+fn sender_limits() {
+    for (mask, most) in Mask::ALL.into_iter().zip([258, 130, 66, 34, 18, 10, 6]) {
         assert_eq!(mask.max_fragments(), most / 2);
-        assert_eq!(cut(&[0x7F; 40][..most], 3, mask, most / 2 - 1), Ok(3));
-        assert_eq!(cut(&[0x7F; 40][..most], 3, mask, most / 2), Err(Refusal::Number));
-        assert_eq!(cut(&[0x7F; 40][..most + 1], 3, mask, usize::MAX), Err(Refusal::Count));
+        assert_eq!(cut(&[0x7F; 300][..most], 3, mask, most / 2 - 1), Ok(3));
+        assert_eq!(cut(&[0x7F; 300][..most], 3, mask, most / 2), Err(Refusal::Number));
+        assert_eq!(cut(&[0x7F; 300][..most + 1], 3, mask, usize::MAX), Err(Refusal::Count));
     }
 }
 

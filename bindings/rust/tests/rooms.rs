@@ -64,7 +64,9 @@ fn fragment() {
     for (k, answer) in FRAGMENTS.into_iter().enumerate() {
         rooms(answer, |out| xara::fragment(&MESSAGE, 5, Mask::Hf, k, out).map(<[u8]>::to_vec));
     }
-    rooms(&MESSAGE, |out| xara::fragment(&MESSAGE, 7, Mask::Fm, 0, out).map(<[u8]>::to_vec));
+    for mask in Mask::ALL {
+        rooms(&MESSAGE, |out| xara::fragment(&MESSAGE, 7, mask, 0, out).map(<[u8]>::to_vec));
+    }
 }
 
 #[test]

@@ -38,6 +38,7 @@ fn more_than_can_be_held_or_counted() {
 fn masks_that_are_none() {
     for crc_mask in (0..=255).filter(|&b| Mask::from_byte(b).is_none()) {
         refused(State { held: 5000, nfrag: 255, count: 1, crc_mask, overflow: true }, RX_BUFFER, Refusal::Mask);
+        refused(State { crc_mask, ..State::new(Mask::Hf) }, RX_BUFFER, Refusal::Mask);
     }
 }
 
@@ -89,8 +90,9 @@ fn joined(mut state: State) {
 fn states_that_are_made_up() {
     for held in [0, 1, 2, 2500, 4997, 4998, 4999, 5000] {
         for nfrag in [0, 1, 2, 128, 253, 254, 255] {
-            joined(State { held, nfrag, count: 7, crc_mask: 0xF0, overflow: false });
-            joined(State { held, nfrag, count: 7, crc_mask: 0xF8, overflow: true });
+            for (mask, overflow) in Mask::ALL.into_iter().flat_map(|mask| [(mask, false), (mask, true)]) {
+                joined(State { held, nfrag, count: 7, crc_mask: mask.byte(), overflow });
+            }
         }
     }
 }
@@ -98,7 +100,7 @@ fn states_that_are_made_up() {
 #[test]
 fn reset_of_any_state() {
     for held in [0, 5000, 5001, usize::MAX] {
-        for crc_mask in [0, 0xF0, 0xF8, 0xFF] {
+        for crc_mask in 0..=255 {
             let mut state = State { held, nfrag: held, count: 9, crc_mask, overflow: true };
             state.reset();
             assert_eq!(state, State { held: 0, nfrag: 0, count: 9, crc_mask, overflow: false });

@@ -19,8 +19,10 @@ fn every_other_command_is_refused() {
 fn every_other_mask_is_refused() {
     let (mut out, mut store) = ([0xA5; 10], [0xA5; RX_BUFFER]);
     for crc_mask in (0..=255).filter(|&b| Mask::from_byte(b).is_none()) {
-        let a = raw::xara_fragment(b"A", 5, crc_mask, 0, &mut out);
-        assert_eq!((a.ok, a.refusal, a.value), (0, 9, 0));
+        for (message, field, refusal) in [(&b""[..], 2, 8), (b"", 5, 9), (b"A", 5, 9)] {
+            let a = raw::xara_fragment(message, field, crc_mask, 0, &mut out);
+            assert_eq!((a.ok, a.refusal, a.value), (0, refusal, 0));
+        }
         let a = raw::xara_receiver_new(crc_mask);
         let none = XaraReceiver { held: 0, nfrag: 0, count: 0, crc_mask: 0, overflow: 0 };
         assert_eq!((a.ok, a.refusal, a.receiver), (0, 9, none));
@@ -35,7 +37,7 @@ fn every_other_mask_is_refused() {
 
 #[test]
 fn masks_are_taken() {
-    for mask in [Mask::Hf, Mask::Fm] {
+    for mask in Mask::ALL {
         let a = raw::xara_receiver_new(mask.byte());
         let fresh = XaraReceiver { held: 0, nfrag: 0, count: 0, crc_mask: mask.byte(), overflow: 0 };
         assert_eq!((a.ok, a.refusal, a.receiver), (1, 0, fresh));
