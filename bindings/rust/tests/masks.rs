@@ -122,14 +122,16 @@ fn fragments_that_are_heard() {
     }
 }
 
-/// What is written of lost frames, in xara.h and in this crate, is what the example prints.
+/// What is written of lost frames, in xara.h, in this crate and in README.md, is what the example prints.
 #[test]
 fn figures_of_lost_frames() {
     let printed =
         include_str!("../examples/lost.stdout").lines().filter_map(|line| line.split_once("middle frame lost "));
     let printed: Vec<&str> = printed.filter_map(|(_, rest)| rest.split(' ').next()).collect();
     assert_eq!(printed.len(), MASKS.len());
-    for text in [include_str!("../../include/xara.h"), include_str!("../src/lib.rs")] {
+    let texts =
+        [include_str!("../../include/xara.h"), include_str!("../src/lib.rs"), include_str!("../../../README.md")];
+    for text in texts {
         let (_, rest) = text.split_once("still done").expect("a line of figures");
         let line = rest.lines().next().expect("the rest of the line").replace(',', "");
         let figures: Vec<&str> = line.split([' ', '|']).filter(|figure| !figure.is_empty()).collect();
