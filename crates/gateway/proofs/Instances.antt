@@ -7,7 +7,6 @@ use mathlib.Core.Bool.{true, false}
 use mathlib.Core.List.{List, [], _∷_, _++_}
 use mathlib.Core.Option.{some}
 use Prim.Native.Nat.{ℕ, zero, suc, _+_, _-_, _*_, _≤_, _<_}
-use native.Mathlib.Nat.{mul-le-mul-right}
 use native.Mathlib.Omega.{arith}
 use lib.ListN.{length, drop, replicate, length-take, length-replicate, getD-replicate}
 use borrow.Author.Tests.{le-ltb}
@@ -19,7 +18,7 @@ use Rattle.refusals.specs.Outcome.{answer}
 use Rattle.refusals.proofs.LimitLaws.{field-low, mask-top}
 use Rattle.refusals.proofs.OutcomeLaws.{accepted-is}
 use Rattle.sender.specs.Send.{ceiling, countOf, fragmentOf, mostOf}
-use Rattle.sender.proofs.CountLaws.{ceiling-least, count-one, count-many, count-pos}
+use Rattle.sender.proofs.CountLaws.{count-pos, count-within}
 use Rattle.sender.proofs.MaskLaws.{most-three}
 use Rattle.sender.proofs.SendLaws.{Sendable, send-past, send-answer, send-accepted, fragment-single, fragment-first, fragment-suc}
 use Rattle.frame.specs.Frame.{frameOf}
@@ -99,19 +98,6 @@ module _ (m : ℕ) (x : Sending) (able : Sendable (x .message) (x .field) m) whe
       }
 
 -- ---- what can be coded can be sent, where mask and field have room for 5,000 bytes
-
--- a message of so many bytes takes at most one more than q fragments
-count-within : (n field q : ℕ) → 3 ≤ field → n + 1 ≤ field + q * (field - 1) → countOf n field ≤ suc q
-count-within n field q low fits =
-    by-le n field
-    (λ s. omega (arith, count-one n field s))
-    (λ s. omega (arith, count-many n field s, quotient (ceiling-least (n + 1 - field) (field - 1) (omega (arith, low)))))
-  where
-    quotient : ceiling (n + 1 - field) (field - 1) * (field - 1) < n + 1 - field + (field - 1) → ceiling (n + 1 - field) (field - 1) ≤ q
-    quotient h =
-        by-le (ceiling (n + 1 - field) (field - 1)) q
-        (λ l. l)
-        (λ l. absurd (omega (arith, h, fits, low, mul-le-mul-right (field - 1) l)))
 
 -- field and mask for any message
 pub record Ample (m field : ℕ) : Type 0 where

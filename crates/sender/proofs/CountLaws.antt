@@ -72,3 +72,16 @@ module _ (n field : ℕ) where
       let e : k ≤ ceiling (n + 1 - field) (field - 1) = omega (arith, count-many h) in
       let g : k * (field - 1) ≤ ceiling (n + 1 - field) (field - 1) * (field - 1) = mul-le-mul-right (field - 1) e in
       omega (arith, g, ceiling-least (n + 1 - field) (field - 1) (omega arith))
+
+-- a message of so many bytes takes at most one more than q fragments
+pub count-within : (n field q : ℕ) → 3 ≤ field → n + 1 ≤ field + q * (field - 1) → countOf n field ≤ suc q
+count-within n field q low fits =
+    by-le n field
+    (λ s. omega (arith, count-one n field s))
+    (λ s. omega (arith, count-many n field s, quotient (ceiling-least (n + 1 - field) (field - 1) (omega (arith, low)))))
+  where
+    quotient : ceiling (n + 1 - field) (field - 1) * (field - 1) < n + 1 - field + (field - 1) → ceiling (n + 1 - field) (field - 1) ≤ q
+    quotient h =
+        by-le (ceiling (n + 1 - field) (field - 1)) q
+        (λ l. l)
+        (λ l. absurd (omega (arith, h, fits, low, mul-le-mul-right (field - 1) l)))
