@@ -17,10 +17,12 @@ const LONGEST: usize = 4999;
 const MOST_DECODED: usize = 45_764;
 /// The receiver's store.
 const STORE: usize = 5000;
-/// Text and generic 7 bit of 4,999 bytes; the position report; crc, fragments, frame and push.
+/// Text and generic 7 bit of 4,999 bytes; the position report; crc, fragments, frame and push; fragments and push under a
+/// mask of another number of check bits.
 const TEXT_BAR: f64 = 5.0;
 const POSITION_BAR: f64 = 2.0;
 const OTHER_BAR: f64 = 3.0;
+const MASK_BAR: f64 = 1.0;
 
 const MARKER: u8 = 0x01;
 const CONTROL: Control = Control { reply: 1, compressed: false, hint: 2 };
@@ -94,47 +96,67 @@ pub fn crc(table: &mut Table) {
     }
 }
 
-/// Messages of 17 fragments, the most that the mask leaves room for.
-fn messages() -> [(usize, Rc<[u8]>); 2] {
-    let mut r = Random::new();
-    [(300, message(&mut r, 4800).into()), (64, message(&mut r, 1050).into())]
+/// A message to send, and what its rows have.
+struct Sending {
+    name: &'static str,
+    bar: Option<f64>,
+    field: usize,
+    mask: u8,
+    message: Rc<[u8]>,
 }
 
-fn split(message: &[u8], field: usize) -> Vec<Vec<u8>> {
-    kiss::split_masked(message, kiss::count_for_field(message.len(), field), field, HF_CRC_MASK)
+impl Sending {
+    fn new(name: &'static str, bar: f64, field: usize, mask: u8, message: Vec<u8>) -> Self {
+        Sending { name, bar: Some(bar), field, mask, message: message.into() }
+    }
+}
+
+/// Messages of the most fragments that the masks leave room for: 17 under F0, and 129 under 80.
+fn sendings() -> [Sending; 3] {
+    let mut r = Random::new();
+    [
+        Sending::new("field 300", OTHER_BAR, 300, HF_CRC_MASK, message(&mut r, 4800)),
+        Sending::new("field 64", OTHER_BAR, 64, HF_CRC_MASK, message(&mut r, 1050)),
+        Sending::new("mask 80", MASK_BAR, 40, 0x80, message(&mut r, 5000)),
+    ]
+}
+
+/// All fragments of the source.
+fn split(message: &[u8], field: usize, mask: u8) -> Vec<Vec<u8>> {
+    kiss::split_masked(message, kiss::count_for_field(message.len(), field), field, mask)
 }
 
 /// All fragments of ours, one after the other; their total length.
-fn cut(message: &[u8], field: usize, out: &mut [u8]) -> Result<usize, u8> {
+fn cut(message: &[u8], field: usize, mask: u8, out: &mut [u8]) -> Result<usize, u8> {
     let mut end = 0;
     for k in 0..xara::count(message.len(), field).told()? {
-        end += xara::fragment(message, field, HF_CRC_MASK, k, &mut out[end..]).told()?;
+        end += xara::fragment(message, field, mask, k, &mut out[end..]).told()?;
     }
     Ok(end)
 }
 
 /// All fragments of a message.
 pub fn fragments(table: &mut Table) {
-    for (field, message) in messages() {
-        let name = format!("fragments field {field}");
+    for Sending { name, bar, field, mask, message } in sendings() {
+        let name = format!("fragments {name}");
         if !table.wants(&name, message.len()) {
             continue;
         }
         let mut out = vec![0; 2 * STORE];
-        let n = cut(&message, field, &mut out).expect("the message is accepted");
-        same(&name, &split(&message, field).concat(), &out[..n]);
+        let n = cut(&message, field, mask, &mut out).expect("the message is accepted");
+        same(&name, &split(&message, field, mask).concat(), &out[..n]);
         let (bytes, theirs) = (message.len(), Rc::clone(&message));
-        let source = move || split(black_box(&theirs), black_box(field));
-        table.add(&name, bytes, Some(OTHER_BAR), source, move || {
-            cut(black_box(&message), black_box(field), black_box(&mut out))
+        let source = move || split(black_box(&theirs), black_box(field), black_box(mask));
+        table.add(&name, bytes, bar, source, move || {
+            cut(black_box(&message), black_box(field), black_box(mask), black_box(&mut out))
         });
     }
 }
 
 /// One frame: of a fragment with field bytes, and of the last one, which is shorter.
 pub fn frame(table: &mut Table) {
-    let [(field, message), _] = messages();
-    let mut fragments = split(&message, field);
+    let [Sending { field, mask, message, .. }, ..] = sendings();
+    let mut fragments = split(&message, field, mask);
     let (first, last) = (fragments.swap_remove(0), fragments.remove(0));
     for (name, data) in [("frame, full", first), ("frame, shorter", last)] {
         if !table.wants(name, field) {
@@ -152,8 +174,8 @@ pub fn frame(table: &mut Table) {
 }
 
 /// A new receiver of the source, all frames pushed.
-fn join(frames: &[Vec<u8>], level: Record) -> Option<Vec<u8>> {
-    let mut receiver = Reassembler::default();
+fn join(frames: &[Vec<u8>], level: Record, mask: u8) -> Option<Vec<u8>> {
+    let mut receiver = Reassembler::with_crc_mask(mask);
     let mut done = None;
     for frame in frames {
         if let Push::Done(message) = receiver.push(frame, level) {
@@ -164,8 +186,8 @@ fn join(frames: &[Vec<u8>], level: Record) -> Option<Vec<u8>> {
 }
 
 /// A new receiver of ours, all frames pushed; the length of the message, which is first in the store.
-fn join_ours(frames: &[Vec<u8>], field: usize, store: &mut [u8]) -> Result<usize, u8> {
-    let mut receiver = Receiver::fresh(HF_CRC_MASK).told()?;
+fn join_ours(frames: &[Vec<u8>], field: usize, mask: u8, store: &mut [u8]) -> Result<usize, u8> {
+    let mut receiver = Receiver::fresh(mask).told()?;
     let mut done = 0;
     for frame in frames {
         let pushed = receiver.push(store, frame, field);
@@ -179,21 +201,21 @@ fn join_ours(frames: &[Vec<u8>], field: usize, store: &mut [u8]) -> Result<usize
 
 /// All frames of a message.
 pub fn push(table: &mut Table) {
-    for (field, message) in messages() {
-        let name = format!("push field {field}");
+    for Sending { name, bar, field, mask, message } in sendings() {
+        let name = format!("push {name}");
         if !table.wants(&name, message.len()) {
             continue;
         }
         let level = Record::of_field(field);
         let framed = |f: &Vec<u8>| build_frame(field + 3, f, CONTROL, None, MARKER);
-        let frames: Rc<[Vec<u8>]> = split(&message, field).iter().map(framed).collect();
+        let frames: Rc<[Vec<u8>]> = split(&message, field, mask).iter().map(framed).collect();
         let mut store = vec![0; STORE];
-        let n = join_ours(&frames, field, &mut store).expect("the mask is accepted");
-        same(&name, &join(&frames, level).expect("the message is done"), &store[..n]);
+        let n = join_ours(&frames, field, mask, &mut store).expect("the mask is accepted");
+        same(&name, &join(&frames, level, mask).expect("the message is done"), &store[..n]);
         let theirs = Rc::clone(&frames);
-        let source = move || join(black_box(&theirs), black_box(level));
-        table.add(&name, message.len(), Some(OTHER_BAR), source, move || {
-            join_ours(black_box(&frames), black_box(field), black_box(&mut store))
+        let source = move || join(black_box(&theirs), black_box(level), black_box(mask));
+        table.add(&name, message.len(), bar, source, move || {
+            join_ours(black_box(&frames), black_box(field), black_box(mask), black_box(&mut store))
         });
     }
 }

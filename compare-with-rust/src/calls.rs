@@ -1,6 +1,7 @@
 //! The calls that keep no state: CRC, counts, fragments and frames.
 
 use crate::lent::{Input, Lent};
+use crate::masks;
 use crate::tally::{Kind, Row, Tally};
 use crate::writing::Writing;
 use crate::xara::{self, Answer, Control};
@@ -44,9 +45,23 @@ pub fn count(kind: Kind, total: usize, field: usize, tally: &mut Tally) -> bool 
     tally.compare(kind, expected, Row::of(xara::count(total, field)), || format!("count {total} {field}"))
 }
 
-/// Messages of every length around an edge of this field, under both masks and a wrong one.
+/// Every byte as a mask, with a message that takes two fragments, and with an empty one.
+pub fn all_masks(r: &mut Random, tally: &mut Tally) {
+    for mask in 0..=255 {
+        fragments_of(&[0x40, 0xAC, 0xB7, 0x01, 0x00, 0x10, 0x40], 5, mask, r, tally);
+        fragments_of(&[], 5, mask, r, tally);
+    }
+}
+
+/// A field so small that a message can take two fragments more than any mask has room for: 131 of up to 38 bytes after
+/// their first one.
+pub fn small_field(r: &mut Random) -> usize {
+    3 + r.below(37)
+}
+
+/// Messages of lengths around the edges of this field, under each of the masks and another.
 pub fn fragments(field: usize, r: &mut Random, tally: &mut Tally) {
-    for mask in [MASKS[0], MASKS[1], r.byte()] {
+    for mask in MASKS.into_iter().chain([masks::other(r)]) {
         for total in lengths(field, mask, r) {
             let mut message = r.bytes(total);
             if let Some(first) = message.first_mut()
@@ -65,7 +80,8 @@ fn lengths(field: usize, mask: u8, r: &mut Random) -> Vec<usize> {
     let mut list =
         vec![0, 1, 2, field.saturating_sub(1), field, field + 1, MAX_MESSAGE, MAX_MESSAGE + 1, r.below(5001)];
     if MASKS.contains(&mask) && FIELDS.contains(&field) {
-        for count in 1..=most(mask) + 2 {
+        let most = most(mask);
+        for count in some_below(most + 1, r).into_iter().chain([most + 1, most + 2]) {
             list.extend([count * (field - 1), count * (field - 1) + 1]);
         }
     }
@@ -73,11 +89,23 @@ fn lengths(field: usize, mask: u8, r: &mut Random) -> Vec<usize> {
     list
 }
 
-/// Every fragment of a message and some after the last, with outputs that are too short, exact and longer.
+/// The numbers below n: all where they are few, else the first and the last ones and some between.
+fn some_below(n: usize, r: &mut Random) -> Vec<usize> {
+    if n <= FEW {
+        return (0..n).collect();
+    }
+    let between = (0..4).map(|_| r.below(n));
+    (0..3).chain(between).chain([n - 2, n - 1]).collect()
+}
+
+/// As many as there are fragments of a message under F0, and one more.
+const FEW: usize = 18;
+
+/// Some fragments of a message and some after the last, with outputs that are too short, exact and longer.
 fn fragments_of(message: &[u8], field: usize, mask: u8, r: &mut Random, tally: &mut Tally) {
-    let split = answers::sent(message, field, mask, most(mask));
+    let split = answers::sent(message, field, mask);
     let count = split.as_ref().map_or(1, Vec::len);
-    for k in (0..count + 2).chain([r.number() as usize, usize::MAX]) {
+    for k in some_below(count, r).into_iter().chain([count, count + 1, r.number() as usize, usize::MAX]) {
         let expected = match &split {
             Err(refusal) => Err(*refusal),
             Ok(list) => list.get(k).map(Vec::as_slice).ok_or(13),
@@ -107,6 +135,7 @@ pub fn fragment(
     tally: &mut Tally,
 ) -> bool {
     let Number { field, mask, k } = number;
+    tally.cut(mask, expected.map(|_| k + 1));
     let call = Writing {
         kind,
         input: Input::new(message),
@@ -181,7 +210,7 @@ pub fn every_room(field: usize, r: &mut Random, tally: &mut Tally) {
     let total = 1 + r.below(most.clamp(1, MAX_MESSAGE));
     let mut message = r.bytes(total);
     message[0] &= 0x7F;
-    let split = answers::sent(&message, field, mask, answers::most(mask));
+    let split = answers::sent(&message, field, mask);
     let k = r.below(split.as_ref().map_or(1, Vec::len));
     let expected = split.as_ref().map(|list| &list[k][..]).map_err(|&refusal| refusal);
     let rooms: Vec<Lent> = (0..=expected.map_or(field, <[u8]>::len) + 1).map(|room| Lent::new(r, room)).collect();
@@ -192,4 +221,31 @@ pub fn every_room(field: usize, r: &mut Random, tally: &mut Tally) {
     framed(Kind::Frame, expected.unwrap_or(&message[..1]), head, rooms, tally);
     tally.every_room();
     tally.every_room();
+}
+
+#[cfg(test)]
+mod tests {
+    use super::*;
+
+    /// With a small field messages take one fragment less than each mask has room for, as many, and one and two more.
+    #[test]
+    fn every_limit() {
+        let mut r = Random::new(1, "limit");
+        for mask in MASKS.repeat(100) {
+            let (field, most) = (small_field(&mut r), most(mask));
+            let counts: Vec<_> =
+                lengths(field, mask, &mut r).iter().map(|&total| answers::count(total, field)).collect();
+            assert!((most - 1..=most + 2).all(|count| counts.contains(&Ok(count))), "{field} {mask:02X}");
+        }
+    }
+
+    /// Of many fragments the first, the last and some between are compared, of few all.
+    #[test]
+    fn some_numbers() {
+        let mut r = Random::new(1, "numbers");
+        assert_eq!(some_below(17, &mut r), (0..17).collect::<Vec<_>>());
+        let many = some_below(129, &mut r);
+        assert!([0, 1, 2, 127, 128].iter().all(|k| many.contains(k)));
+        assert!(many.iter().all(|&k| k < 129));
+    }
 }

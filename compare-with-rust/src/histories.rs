@@ -1,17 +1,17 @@
 //! Histories of pushes, joins and resets, and states that a caller makes up.
 
 use crate::lent::Input;
+use crate::masks;
 use crate::receiver::Pair;
 use crate::rules::{self, Call};
 use crate::tally::{Kind, Row, Tally};
 use crate::xara::{self, Fresh, Pushed};
-use answers::MASKS;
-use answers::MAX_MESSAGE;
 use answers::random::Random;
+use answers::{MASKS, MAX_MESSAGE, most};
 
 /// A new receiver of any mask, and with an accepted one a history.
 pub fn history(r: &mut Random, tally: &mut Tally) {
-    let mask = if r.below(32) == 0 { r.byte() } else { r.one_of(&MASKS) };
+    let mask = masks::some(r, 32);
     let Some(mut pair) = new(Kind::New, mask, r, tally) else { return };
     match r.below(16) {
         0 => many_fragments(&mut pair, mask, r, tally),
@@ -32,7 +32,7 @@ pub fn new(kind: Kind, mask: u8, r: &mut Random, tally: &mut Tally) -> Option<Pa
     Some(Pair::new(mask, fresh, r.bytes(MAX_MESSAGE)))
 }
 
-/// Two senders whose frames come in turn, with faults among them.
+/// Two senders whose frames come in turn, some of them under another mask than the receiver's, with faults among them.
 fn traffic(pair: &mut Pair, mask: u8, r: &mut Random, tally: &mut Tally) {
     let mut senders = [Sender::new(mask, r), Sender::new(mask, r)];
     let alone = r.below(2) == 0;
@@ -49,10 +49,11 @@ fn traffic(pair: &mut Pair, mask: u8, r: &mut Random, tally: &mut Tally) {
     }
 }
 
-/// 250 to 260 fragments of a few bytes, then a little traffic.
+/// 250 to 260 fragments of a few bytes, or about the most that the mask has room for, then a little traffic.
 fn many_fragments(pair: &mut Pair, mask: u8, r: &mut Random, tally: &mut Tally) {
     let field = 3 + r.below(2);
-    let message = message((250 + r.below(11)) * (field - 1), r);
+    let count = if r.below(2) == 0 { 250 + r.below(11) } else { most(mask) - 1 + r.below(4) };
+    let message = message(count * (field - 1), r);
     run(pair, answers::split(&message, field, mask), field, r, tally);
     traffic(pair, mask, r, tally);
 }
@@ -181,8 +182,10 @@ struct Sender {
 }
 
 impl Sender {
+    /// A sender of any field, mostly under this mask.
     fn new(mask: u8, r: &mut Random) -> Self {
         let field = if r.below(2) == 0 { 3 + r.below(8) } else { 3 + r.below(510) };
+        let mask = if r.below(4) == 0 { r.one_of(&MASKS) } else { mask };
         Sender { field, mask, fragments: Vec::new() }
     }
 
@@ -217,7 +220,7 @@ fn message(length: usize, r: &mut Random) -> Vec<u8> {
 pub fn made_up(r: &mut Random, tally: &mut Tally) {
     let held = [0, 1, 4_999, 5_000, r.below(5_001), r.below(5_001), 5_001, usize::MAX][r.below(8)];
     let nfrag = [0, 1, 254, 255, r.below(256), r.below(256), 256, usize::MAX][r.below(8)];
-    let crc_mask = if r.below(8) == 0 { r.byte() } else { r.one_of(&MASKS) };
+    let crc_mask = masks::some(r, 8);
     let overflow = if r.below(2) == 0 { 0 } else { r.byte() };
     let state = xara::Receiver { held, nfrag, count: r.byte(), crc_mask, overflow };
     let size = if r.below(8) == 0 { [0, 4_999, 5_001, r.below(6_000)][r.below(4)] } else { MAX_MESSAGE };
@@ -238,14 +241,29 @@ pub fn made_up(r: &mut Random, tally: &mut Tally) {
     }
 }
 
+/// Every byte as a mask: of a new receiver, and of one that a caller made up, alone and with refusals before and after 9.
+pub fn all_masks(r: &mut Random, tally: &mut Tally) {
+    for mask in 0..=255 {
+        new(Kind::New, mask, r, tally);
+        join_and_push(mask, MAX_MESSAGE, 3, r, tally);
+        join_and_push(mask, MAX_MESSAGE, 2, r, tally);
+        join_and_push(mask, MAX_MESSAGE - 1, 2, r, tally);
+    }
+}
+
 /// Every length of a store to 5,001: all but 5,000 are refused with 17.
 pub fn all_stores(r: &mut Random, tally: &mut Tally) {
     for size in 0..=MAX_MESSAGE + 1 {
-        let state = xara::Receiver { held: 0, nfrag: 0, count: 0, crc_mask: r.one_of(&MASKS), overflow: 0 };
-        let mut pair = MadeUp::new(state, vec![r.byte(); size]);
-        pair.call(Call::Join(&[0x80, 0x00, 0x41], 3), tally);
-        pair.call(Call::Push(&[0x41, 0x14, 0x00, 0x00, 0x00, 0x00], 3), tally);
+        join_and_push(r.one_of(&MASKS), size, 3, r, tally);
     }
+}
+
+/// A join and a push of this field on a receiver that holds nothing, with a store of this size.
+fn join_and_push(crc_mask: u8, size: usize, field: usize, r: &mut Random, tally: &mut Tally) {
+    let state = xara::Receiver { held: 0, nfrag: 0, count: 0, crc_mask, overflow: 0 };
+    let mut pair = MadeUp::new(state, vec![r.byte(); size]);
+    pair.call(Call::Join(&[0x80, 0x00, 0x41], 3), tally);
+    pair.call(Call::Push(&[0x41, 0x14, 0x00, 0x00, 0x00, 0x00], field), tally);
 }
 
 /// Our receiver from a state and a store that a caller made up, and both as the rules have them.

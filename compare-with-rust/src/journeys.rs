@@ -31,8 +31,10 @@ struct Journey {
 
 /// Some data on its journey. Counted is whether what is decoded last is the data.
 pub fn journey(r: &mut Random, tally: &mut Tally) {
-    let (command, data) = codings::data(r);
-    let journey = Journey::new(r);
+    let mask = r.one_of(&MASKS);
+    let many = r.below(8) == 0;
+    let (field, (command, data)) = if many { many_fragments(mask, r) } else { (some_field(r), codings::data(r)) };
+    let journey = Journey::new(mask, field, r);
     let expected = answers::encode(command, &data);
     let same = codings::encoded(Kind::Journey, command, &data, &expected, vec![Lent::new(r, MAX_MESSAGE)], tally);
     let Some((message, _)) = expected.ok().filter(|_| same) else { return };
@@ -41,12 +43,26 @@ pub fn journey(r: &mut Random, tally: &mut Tally) {
     }
 }
 
+/// A field, one in four of them small.
+fn some_field(r: &mut Random) -> usize {
+    let fields = if r.below(4) == 0 { 30 } else { FIELDS.count() };
+    FIELDS.start() + r.below(fields)
+}
+
+/// A field, and data whose message takes one fragment less than the mask has room for, as many, or one or two more. It goes
+/// under command 2 with a first byte of 80 or more: its message is then one byte longer.
+fn many_fragments(mask: u8, r: &mut Random) -> (usize, (u8, Vec<u8>)) {
+    let field = calls::small_field(r);
+    let count = most(mask) - 1 + r.below(4);
+    let total = count * (field - 1) - r.below(field - 1);
+    let mut data = r.bytes(total - 1);
+    data[0] |= 0x80;
+    (field, (2, data))
+}
+
 impl Journey {
-    fn new(r: &mut Random) -> Self {
-        let fields = if r.below(4) == 0 { 30 } else { FIELDS.count() };
-        let field = FIELDS.start() + r.below(fields);
+    fn new(mask: u8, field: usize, r: &mut Random) -> Self {
         let control = Control { reply: r.below(4) as u8, compressed: r.below(2) as u8, hint: r.below(8) as u8 };
-        let mask = r.one_of(&MASKS);
         Journey { mask, head: Head { field, control, marker: r.byte() }, fates: fates(r, most(mask)) }
     }
 
@@ -68,7 +84,7 @@ impl Journey {
     fn cut(&self, message: &[u8], r: &mut Random, tally: &mut Tally) -> Option<Vec<Vec<u8>>> {
         let (field, mask) = (self.head.field, self.mask);
         let mut same = calls::count(Kind::Journey, message.len(), field, tally);
-        let split = answers::sent(message, field, mask, most(mask));
+        let split = answers::sent(message, field, mask);
         for k in 0..split.as_ref().map_or(1, Vec::len) {
             let expected = split.as_ref().map(|list| &list[k][..]).map_err(|&refusal| refusal);
             let out = [Lent::new(r, field)];

@@ -6,6 +6,7 @@ mod expected;
 mod histories;
 mod journeys;
 mod lent;
+mod masks;
 mod receiver;
 mod rules;
 mod spoil;
@@ -56,12 +57,15 @@ fn run(time: Duration, seed: u64) -> Tally {
     let wrong = std::env::var_os(WRONG).is_some();
     let mut tally = if wrong { Tally::spoiling() } else { Tally::default() };
     calls::all_counts(&mut tally);
+    calls::all_masks(&mut r, &mut tally);
+    histories::all_masks(&mut r, &mut tally);
     histories::all_stores(&mut r, &mut tally);
     codings::longest(&mut r, &mut tally);
     codings::written_down(&mut r, &mut tally);
     let mut field = 0;
     while began.elapsed() < time {
         calls::fragments(field, &mut r, &mut tally);
+        calls::fragments(calls::small_field(&mut r), &mut r, &mut tally);
         calls::frames(field, &mut r, &mut tally);
         calls::every_room(field, &mut r, &mut tally);
         codings::every_room(&mut r, &mut tally);

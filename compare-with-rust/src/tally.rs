@@ -64,6 +64,13 @@ pub fn same<T: PartialEq>(a: &Row<T>, b: &Row<T>) -> bool {
 /// How many differences are written out with their inputs.
 const SHOWN: u64 = 5;
 
+/// How many fragments were met, and the most of one message.
+#[derive(Default)]
+struct Cut {
+    times: u64,
+    most: usize,
+}
+
 #[derive(Default)]
 pub struct Tally {
     compared: [u64; KINDS],
@@ -75,6 +82,7 @@ pub struct Tally {
     made_up_refused: u64,
     made_up_answered: u64,
     every_room: u64,
+    cut: BTreeMap<Result<u8, u8>, Cut>,
     coded: BTreeMap<Result<u8, u8>, u64>,
     decoded: BTreeMap<Result<u8, u8>, u64>,
     longest: usize,
@@ -143,6 +151,13 @@ impl Tally {
         self.every_room += 1;
     }
 
+    /// Counts the fragments under each mask, by their place in the message from 1 on, and the refusals of the sender.
+    pub fn cut(&mut self, mask: u8, place: Result<usize, u8>) {
+        let cut = self.cut.entry(place.map(|_| mask)).or_default();
+        cut.times += 1;
+        cut.most = cut.most.max(place.unwrap_or_default());
+    }
+
     /// Counts the types and the refusals of the coder.
     pub fn coded(&mut self, met: Result<u8, u8>) {
         *self.coded.entry(met).or_default() += 1;
@@ -181,6 +196,7 @@ impl Tally {
         text += &format!("pushes and joins: {} done, {} more, {} dropped\n", self.done, self.more, self.dropped);
         text += &format!("made up: {} answered, {} refused\n", self.made_up_answered, self.made_up_refused);
         text += &format!("with every output length from 0: {} calls\n", self.every_room);
+        text += &format!("cut: {}\n", told_cut(&self.cut));
         text += &format!("coded: {}\n", told("type", &self.coded));
         text += &format!("decoded: {}, at most {} bytes\n", told("command", &self.decoded), self.longest);
         text + &format!("journeys: {} decoded, {} unchanged\n", self.decoded_journeys, self.unchanged_journeys)
@@ -191,6 +207,15 @@ impl Tally {
 fn told(value: &str, met: &BTreeMap<Result<u8, u8>, u64>) -> String {
     let words = met.iter().map(|(answer, times)| match answer {
         Ok(v) => format!("{value} {v} {times} times"),
+        Err(refusal) => format!("refused {refusal} {times} times"),
+    });
+    words.collect::<Vec<_>>().join(", ")
+}
+
+/// How often a fragment was met under each mask, with the most of one message, and how often each refusal.
+fn told_cut(met: &BTreeMap<Result<u8, u8>, Cut>) -> String {
+    let words = met.iter().map(|(answer, Cut { times, most })| match answer {
+        Ok(mask) => format!("mask {mask:02X} {times} times, at most {most} fragments"),
         Err(refusal) => format!("refused {refusal} {times} times"),
     });
     words.collect::<Vec<_>>().join(", ")

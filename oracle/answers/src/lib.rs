@@ -88,16 +88,17 @@ pub fn frame(field: usize, data: &[u8], reply: u8, compressed: bool, hint: u8, m
     build_frame(field + 3, data, Control { reply, compressed, hint }, None, marker)
 }
 
-/// The masks that a sender and a receiver take.
-pub const MASKS: [u8; 2] = [0xF0, 0xF8];
+/// The masks that a sender and a receiver take: "The mask may be the top 1 to 7 bits of the byte." (02, E11)
+pub const MASKS: [u8; 7] = [0x80, 0xC0, 0xE0, 0xF0, 0xF8, 0xFC, 0xFE];
 
-/// The most fragments under a mask: count - 2 must fit beside it.
+/// The most fragments under a mask: "With w check bits the sender accepts counts to 2^(8 − w) + 1." (02, E11)
 pub fn most(mask: u8) -> usize {
-    usize::from(255 - mask) + 2
+    let w = mask.count_ones();
+    2usize.pow(8 - w) + 1
 }
 
 /// All fragments that the sender hands out, or the first of document 01's refusals before 13: 8, 9, 10, 2, 11, 12.
-pub fn sent(message: &[u8], field: usize, mask: u8, most: usize) -> Result<Vec<Vec<u8>>, u8> {
+pub fn sent(message: &[u8], field: usize, mask: u8) -> Result<Vec<Vec<u8>>, u8> {
     if !FIELDS.contains(&field) {
         return Err(BAD_FIELD);
     }
@@ -109,7 +110,7 @@ pub fn sent(message: &[u8], field: usize, mask: u8, most: usize) -> Result<Vec<V
     if first >= 0x80 {
         return Err(11);
     }
-    if count > most {
+    if count > most(mask) {
         return Err(12);
     }
     Ok(split(message, field, mask))

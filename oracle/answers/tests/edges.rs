@@ -1,7 +1,8 @@
-//! The cases that document 01 marks P, and what the stubs must not break.
+//! The cases that document 01 marks P, the masks and their limits, and what the stubs must not break.
 
 use answers::hex::{from_hex, to_hex};
-use answers::{Answer, Receiver, State, count, crc, decode, encode, frame, split, summary};
+use answers::random::Random;
+use answers::{Answer, MASKS, Receiver, State, count, crc, decode, encode, frame, most, sent, split, summary};
 use xara_arq::ax25::{token_decode, token_encode};
 use xara_arq::bits::{Bits, Reader};
 use xara_arq::{cq, kiss};
@@ -36,6 +37,45 @@ fn counts() {
     assert_eq!(field_3, [Ok(17), Ok(18), Ok(9), Ok(10)]);
 }
 
+/// Of the bytes whose ones stand at the top, all but 00 and FF.
+#[test]
+fn seven_masks() {
+    let top = |mask: &u8| mask.leading_ones() == mask.count_ones() && (1..8).contains(&mask.count_ones());
+    assert_eq!((0..=255).filter(top).collect::<Vec<u8>>(), MASKS);
+    assert_eq!(MASKS.map(most), [129, 65, 33, 17, 9, 5, 3]);
+}
+
+#[test]
+fn every_other_mask_is_refused() {
+    let refused: Vec<u8> = (0..=255).filter(|&mask| sent(&[], 3, mask) == Err(9)).collect();
+    assert_eq!(refused.len(), 249);
+    assert!(refused.iter().all(|mask| !MASKS.contains(mask)));
+    assert!(refused.iter().all(|&mask| sent(&[], 2, mask) == Err(8)));
+}
+
+#[test]
+fn the_longest_messages_of_field_3() {
+    for (mask, longest) in MASKS.into_iter().zip([258, 130, 66, 34, 18, 10, 6]) {
+        let counted = |total: usize| sent(&vec![0x41; total], 3, mask).map(|fragments| fragments.len());
+        assert_eq!(counted(longest), Ok(longest / 2), "{mask:02X}");
+        assert_eq!(counted(longest + 1), Err(12), "{mask:02X}");
+    }
+}
+
+/// Whatever the CRC's bits are, a message of the most fragments is done.
+#[test]
+fn the_most_fragments_are_joined() {
+    let mut r = Random::new(1, "most");
+    for mask in MASKS.repeat(32) {
+        let mut receiver = Receiver::new(mask);
+        let mut message = r.bytes(2 * most(mask));
+        message[0] &= 0x7F;
+        let fragments = sent(&message, 3, mask).unwrap();
+        let heard: Vec<Answer> = fragments.iter().map(|f| receiver.join(f, f.len())).collect();
+        assert_eq!(heard.last(), Some(&Answer::Done(message)), "{mask:02X}");
+    }
+}
+
 #[test]
 fn tokens() {
     assert_eq!(token_bits("WIDE1-1"), "100101001");
@@ -56,9 +96,28 @@ fn a_frame_of_17_bytes() {
     assert_eq!(coded(0, &bytes(FRAME)), MESSAGE);
     assert_eq!(decode(&bytes(MESSAGE)), Ok((0, bytes(FRAME))));
     assert_eq!(summary(0, &bytes(FRAME)), Ok((0, 0, true)));
-    let fragments = split(&bytes(MESSAGE), 5, 0xF0);
-    assert_eq!(fragments.len(), 2);
-    assert_eq!(to_hex(&fragments[1]), "40001040");
+}
+
+/// Its fragments as the sender hands them out.
+fn cut(field: usize, mask: u8) -> Result<Vec<String>, u8> {
+    sent(&bytes(MESSAGE), field, mask).map(|fragments| fragments.iter().map(|f| to_hex(f)).collect())
+}
+
+#[test]
+fn its_two_fragments_under_each_mask() {
+    let firsts = ["C000ACB701", "C040ACB701", "C040ACB701", "C040ACB701", "C048ACB701", "C04CACB701", "C04CACB701"];
+    for (mask, first) in MASKS.into_iter().zip(firsts) {
+        assert_eq!(cut(5, mask).unwrap(), [first, "40001040"], "{mask:02X}");
+    }
+}
+
+#[test]
+fn its_four_fragments_under_each_mask_with_room() {
+    let firsts = ["C002AC", "C042AC", "C042AC", "C042AC", "C04AAC", "C04EAC"];
+    for (mask, first) in MASKS.into_iter().zip(firsts) {
+        assert_eq!(cut(3, mask).unwrap(), [first, "C0B701", "C00010", "4040"], "{mask:02X}");
+    }
+    assert_eq!(cut(3, 0xFE), Err(12));
 }
 
 #[test]

@@ -1,5 +1,6 @@
 //! The two programs as they are run.
 
+use answers::MASKS;
 use std::io::Write;
 use std::process::{Command, Stdio};
 
@@ -44,11 +45,15 @@ fn every_request_is_answered() {
     assert_eq!(ask(requests), expected);
 }
 
-#[test]
-fn the_recorded_file_is_well_formed() {
+fn recorded() -> String {
     let out = Command::new(env!("CARGO_BIN_EXE_record")).output().unwrap();
     assert!(out.status.success());
-    let file = String::from_utf8(out.stdout).unwrap();
+    String::from_utf8(out.stdout).unwrap()
+}
+
+#[test]
+fn the_recorded_file_is_well_formed() {
+    let file = recorded();
     assert!(file.is_ascii() && file.ends_with('\n') && file.len() < 2_000_000);
     for line in file.lines().filter(|line| !line.starts_with('#')) {
         assert!(line.split(' ').all(|word| !word.is_empty()), "{line}");
@@ -58,7 +63,63 @@ fn the_recorded_file_is_well_formed() {
     assert!(file.contains("\ntext7 0 - none\n"));
     assert!(file.contains("\nencode 0 5 86A240404040604040404040406103F078 0:40AC0078FF\n"));
     assert!(file.contains("\nencode 2 2 - 0:21FF\n"));
+    assert!(file.contains("\nfragment 5 0 5 80 40ACB701001040 C000ACB701\n"));
+    assert!(file.contains("\nfragment 3 0 3 FC 40ACB701001040 C04EAC\n"));
+    assert!(file.contains("\nfragment 3 0 3 FE 40ACB701001040 refused:12\n"));
     for refusal in 1..=6 {
         assert!(file.lines().any(|l| l.starts_with("encode") && l.ends_with(&format!(" refused:{refusal}"))));
+    }
+}
+
+/// The words of each recorded fragment of field 3: kind, field, number, room, mask, message and answer.
+fn fragments_of_field_3(file: &str) -> Vec<Vec<&str>> {
+    file.lines().filter(|line| line.starts_with("fragment 3 ")).map(|line| line.split(' ').collect()).collect()
+}
+
+/// The last fragment of the longest message, and the refusal of a message that is one byte longer.
+#[test]
+fn every_mask_is_recorded_at_its_limit() {
+    let file = recorded();
+    let fragments = fragments_of_field_3(&file);
+    for (mask, longest) in MASKS.into_iter().zip([258, 130, 66, 34, 18, 10, 6]) {
+        let (mask, last) = (format!("{mask:02X}"), (longest / 2 - 1).to_string());
+        let answered = |bytes: usize, number: &str, answer: fn(&str) -> bool| {
+            fragments.iter().any(|f| f[2] == number && f[4] == mask && f[5].len() == 2 * bytes && answer(f[6]))
+        };
+        assert!(answered(longest, &last, |answer| answer.len() == 6), "{mask}");
+        assert!(answered(longest + 1, "0", |answer| answer == "refused:12"), "{mask}");
+    }
+}
+
+/// The answers of a history, a letter each.
+fn heard(line: &str) -> String {
+    let letter = |call: &str| match call.split_once('=') {
+        Some((_, "more")) => 'm',
+        Some((_, answer)) if answer.starts_with("done:") => 'd',
+        _ => '-',
+    };
+    line.split(' ').map(letter).collect()
+}
+
+/// After another message, one of the most fragments is done.
+#[test]
+fn every_mask_is_recorded_with_its_most_fragments_heard() {
+    let file = recorded();
+    for (mask, most) in MASKS.into_iter().zip([129, 65, 33, 17, 9, 5, 3]) {
+        let start = format!("history {mask:02X} ");
+        let wanted = format!("d{}d", "m".repeat(most - 1));
+        let mut histories = file.lines().filter(|line| line.starts_with(&start));
+        assert!(histories.any(|line| heard(line).contains(&wanted)), "{mask:02X}");
+    }
+}
+
+#[test]
+fn other_masks_are_recorded_as_refused() {
+    let file = recorded();
+    let lines: Vec<&str> = file.lines().filter(|line| line.ends_with(" refused:9")).collect();
+    for mask in (0..=255).filter(|byte| !MASKS.contains(byte)) {
+        assert!(lines.contains(&&format!("history {mask:02X} refused:9")[..]), "{mask:02X}");
+        let start = format!("fragment 5 0 512 {mask:02X} ");
+        assert!(lines.iter().any(|line| line.starts_with(&start)), "{mask:02X}");
     }
 }

@@ -2,7 +2,7 @@
 
 use answers::hex::to_hex;
 use answers::random::Random;
-use answers::{Answer, FIELDS, Receiver, bits, cases, frames};
+use answers::{Answer, FIELDS, MASKS, Receiver, bits, cases, frames};
 
 const SEED: u64 = 0x239A_C292_3920_2601;
 
@@ -283,36 +283,62 @@ fn count_line(out: &mut String, total: usize, field: usize) {
 fn fragment(out: &mut String) {
     *out += "\
 # fragment FIELD K ROOM MASK HEX ANSWER: fragment K, from 0, of a message, to an output of ROOM bytes. The source takes
-# more than 17 fragments under F0 and more than 9 under F8; the answer recorded there is the refusal of document 01.
+# any mask and any count. Where the mask is not the top 1 to 7 bits of a byte, and where there are more fragments than
+# 129 under 80, 65 under C0, 33 under E0, 17 under F0, 9 under F8, 5 under FC and 3 under FE, the refusal is recorded.
 ";
     let mut r = Random::new(SEED, "fragment");
-    for (field, mask) in [(3, 0xF0), (3, 0xF8), (4, 0xF0), (4, 0xF8), (5, 0xF0), (7, 0xF8)] {
-        let most = answers::most(mask);
-        for total in
-            [most * (field - 1), most * (field - 1) + 1, (most + 1) * (field - 1), (most + 1) * (field - 1) + 1]
-        {
-            every_fragment(out, &message(&mut r, total), field, mask);
-        }
+    for mask in MASKS {
+        some_fragments(out, &WORKED, 5, mask, &mut r);
+        some_fragments(out, &WORKED, 3, mask, &mut r);
+        limit(out, 3, mask, &mut r);
+    }
+    for (field, mask) in [(4, 0xC0), (5, 0xE0), (4, 0xF0), (5, 0xF0), (7, 0xF8), (16, 0xFC), (31, 0xFE)] {
+        limit(out, field, mask, &mut r);
     }
     for field in [3, 4, 5, 6, 8, 11, 16, 31] {
-        for total in [1, field - 1, field, field + 1, 2 * (field - 1), 2 * (field - 1) + 1, 3 * (field - 1) + 1] {
-            let message = message(&mut r, total);
-            let (k, mask) = (r.below(4), r.one_of(&[0xF0, 0xF8]));
-            for room in [0, field - 1, field, field + 1 + r.below(9)] {
-                fragment_line(out, &message, field, mask, k, room);
-            }
-            fragment_line(out, &message, field, mask, 0, message.len().min(field));
-        }
+        short_messages(out, field, &mut r);
     }
     long_messages(out, &mut r);
     refused_messages(out, &mut r);
 }
 
-/// Every fragment and one more.
-fn every_fragment(out: &mut String, message: &[u8], field: usize, mask: u8) {
+/// The message of a frame from K1A to CQ with the text A.
+const WORKED: [u8; 7] = [0x40, 0xAC, 0xB7, 0x01, 0x00, 0x10, 0x40];
+
+/// Messages around the most fragments of a mask: the longest of one less, the shortest and the longest of as many, the
+/// shortest of one more, and the shortest of two more.
+fn limit(out: &mut String, field: usize, mask: u8, r: &mut Random) {
+    let (most, room) = (answers::most(mask), field - 1);
+    for total in [(most - 1) * room, (most - 1) * room + 1, most * room, most * room + 1, (most + 1) * room + 1] {
+        some_fragments(out, &message(r, total), field, mask, r);
+    }
+}
+
+/// Of few fragments all and one more; of many the first two, two drawn ones, the last and one more; where the message is
+/// refused, the first and one more.
+fn some_fragments(out: &mut String, message: &[u8], field: usize, mask: u8, r: &mut Random) {
     let count = answers::count(message.len(), field).expect("a field and a length of the domain");
-    for k in 0..=count {
+    let mut numbers = match answers::sent(message, field, mask) {
+        Err(_) => vec![0, count],
+        Ok(_) if count <= 9 => (0..=count).collect(),
+        Ok(_) => vec![0, 1, r.below(count), r.below(count), count - 1, count],
+    };
+    numbers.sort_unstable();
+    numbers.dedup();
+    for k in numbers {
         fragment_line(out, message, field, mask, k, field);
+    }
+}
+
+/// Messages of up to four fragments, to outputs that are too short, exact and longer.
+fn short_messages(out: &mut String, field: usize, r: &mut Random) {
+    for total in [1, field - 1, field, field + 1, 2 * (field - 1), 2 * (field - 1) + 1, 3 * (field - 1) + 1] {
+        let message = message(r, total);
+        let (k, mask) = (r.below(4), r.one_of(&MASKS));
+        for room in [0, field - 1, field, field + 1 + r.below(9)] {
+            fragment_line(out, &message, field, mask, k, room);
+        }
+        fragment_line(out, &message, field, mask, 0, message.len().min(field));
     }
 }
 
@@ -321,6 +347,12 @@ fn long_messages(out: &mut String, r: &mut Random) {
         fragment_line(out, &message(r, total), 512, 0xF0, k, 512);
     }
     fragment_line(out, &message(r, 4_600), 512, 0xF8, 9, 512);
+    fragment_line(out, &message(r, 5_000), 40, 0x80, 128, 40);
+}
+
+/// Every byte that is no mask.
+fn bad_masks() -> impl Iterator<Item = u8> {
+    (0..=255).filter(|byte| !MASKS.contains(byte))
 }
 
 /// One refusal after the other, and two at once.
@@ -329,7 +361,7 @@ fn refused_messages(out: &mut String, r: &mut Random) {
     for field in [0, 1, 2, 513, usize::MAX] {
         fragment_line(out, &good, field, 0xF0, 0, 512);
     }
-    for mask in [0x00, 0x0F, 0xE0, 0xF1, 0xF4, 0xFC, 0xFF] {
+    for mask in bad_masks() {
         fragment_line(out, &good, 5, mask, 0, 512);
     }
     fragment_line(out, &[], 5, 0xF0, 0, 512);
@@ -348,7 +380,7 @@ fn refused_messages(out: &mut String, r: &mut Random) {
 }
 
 fn fragment_line(out: &mut String, message: &[u8], field: usize, mask: u8, k: usize, room: usize) {
-    let fragments = answers::sent(message, field, mask, answers::most(mask));
+    let fragments = answers::sent(message, field, mask);
     let answer = fragments.and_then(|all| all.into_iter().nth(k).ok_or(13)).and_then(|f| within(f, room));
     line!(out, "fragment", field, k, room, to_hex(&[mask]), to_hex(message), or_refused(answer.map(|f| to_hex(&f))));
 }
@@ -409,18 +441,19 @@ fn history(out: &mut String) {
 # a join of the N first bytes, or r, a reset; an answer is dropped, more, done:HEX or refused:N.
 ";
     let mut r = Random::new(SEED, "history");
-    for mask in [0x00, 0x0F, 0xE0, 0xF7, 0xFF] {
+    for mask in bad_masks() {
         line!(out, "history", to_hex(&[mask]), "refused:9");
     }
-    for mask in [0xF0, 0xF8] {
+    for mask in MASKS {
         whole_messages(out, mask, &mut r);
+        other_masks(out, mask, &mut r);
         short_fragments(out, mask);
         last_terminator(out, mask);
-        long_runs(out, mask, &mut r);
-        for _ in 0..60 {
+        for _ in 0..24 {
             faults(out, mask, &mut r);
         }
     }
+    long_runs(out, &mut r);
     many_bytes(out, &mut r);
 }
 
@@ -470,11 +503,13 @@ fn heard(answer: Answer) -> String {
     }
 }
 
-/// Messages of 1 to 20 fragments, one behind the other, by frames and by fragments.
+/// Messages of few fragments, of the most that the mask has room for and of one more, one after the other, by frames and
+/// by fragments.
 fn whole_messages(out: &mut String, mask: u8, r: &mut Random) {
-    for field in [3, 4, 5, 8, 13] {
+    let most = answers::most(mask);
+    for field in [3, 4 + r.below(10)] {
         let (mut pushes, mut joins) = (History::new(mask), History::new(mask));
-        for count in [1, 2, 3, 17, 18, 20] {
+        for count in [1, 2, 3, most, most + 1] {
             let total = count * (field - 1) - r.below(field - 1);
             for f in answers::split(&message(r, total), field, mask) {
                 pushes.push(field, &framed(r, field, &f));
@@ -484,6 +519,15 @@ fn whole_messages(out: &mut String, mask: u8, r: &mut Random) {
         pushes.end(out);
         joins.end(out);
     }
+}
+
+/// Messages that were sent under each of the masks and are heard under this one.
+fn other_masks(out: &mut String, mask: u8, r: &mut Random) {
+    let mut h = History::new(mask);
+    for f in MASKS.into_iter().flat_map(|sender| answers::split(&message(r, 6), 3, sender)) {
+        h.fragment(&f);
+    }
+    h.end(out);
 }
 
 /// A More of one byte, with and without a second byte behind it, and fragments that are none.
@@ -523,24 +567,32 @@ fn last_terminator(out: &mut String, mask: u8) {
 }
 
 /// Up to 255 fragments make a message. The 256th is dropped: as a last one the receiver is clear, with More all up to the
-/// last is dropped. A message behind it shows which.
-fn long_runs(out: &mut String, mask: u8, r: &mut Random) {
-    for count in [254, 255, 256, 257, 260] {
-        let mut h = History::new(mask);
-        for f in answers::split(&message(r, 2 * count), 3, mask) {
-            h.fragment(&f);
-        }
-        h.fragment(&[0x41, 0x42]);
-        for f in answers::split(&message(r, 5), 3, mask) {
-            h.fragment(&f);
-        }
-        h.end(out);
+/// last is dropped. Messages after it show which.
+fn long_runs(out: &mut String, r: &mut Random) {
+    let runs = [(0xF0, 254), (0xF0, 256), (0x80, 256), (0xF8, 257), (0xF0, 260)];
+    for (mask, count) in MASKS.map(|mask| (mask, 255)).into_iter().chain(runs) {
+        long_run(out, mask, count, r);
     }
-    let mut h = History::new(mask);
-    for f in answers::split(&message(r, 2 * 256), 3, mask) {
+    let mut h = History::new(0xF0);
+    for f in answers::split(&message(r, 2 * 256), 3, 0xF0) {
         h.push(3, &answers::frame(3, &f, 0, false, 0, 0x01));
     }
     h.push(3, &answers::frame(3, &[0x41], 0, false, 0, 0x01));
+    h.end(out);
+}
+
+/// A message of so many fragments, and two messages after it. No mask has room for its count: its check byte is all of the
+/// CRC's high byte.
+fn long_run(out: &mut String, mask: u8, count: usize, r: &mut Random) {
+    let mut h = History::new(mask);
+    let long = message(r, 2 * count);
+    let mut fragments = answers::split(&long, 3, mask);
+    fragments[0][1] = (answers::crc(&long) >> 8) as u8;
+    fragments.push(vec![0x41, 0x42]);
+    fragments.extend(answers::split(&message(r, 5), 3, mask));
+    for f in fragments {
+        h.fragment(&f);
+    }
     h.end(out);
 }
 
