@@ -6,9 +6,9 @@ use mathlib.Core.Path.{_≡_, refl, ap, subst}
 use mathlib.Core.Bool.{true, false}
 use mathlib.Core.List.{List, [], _∷_, _++_}
 use mathlib.Core.Option.{some}
-use Prim.Native.Nat.{ℕ, zero, suc, _+_, _-_, _*_, _≤_, _<_}
+use Prim.Native.Nat.{ℕ, zero, suc, _+_, _≤_, _<_}
 use native.Mathlib.Omega.{arith}
-use lib.ListN.{length, drop, replicate, length-take, length-replicate, getD-replicate}
+use lib.ListN.{length, replicate, length-replicate, getD-replicate}
 use borrow.Author.Tests.{le-ltb}
 use Rattle.laws.specs.Bits.{Bytes}
 use Rattle.laws.specs.Pick.{pick}
@@ -21,6 +21,7 @@ use Rattle.sender.specs.Send.{ceiling, countOf, fragmentOf, mostOf}
 use Rattle.sender.proofs.CountLaws.{count-pos, count-within}
 use Rattle.sender.proofs.MaskLaws.{most-three}
 use Rattle.sender.proofs.SendLaws.{Sendable, send-past, send-answer, send-accepted, fragment-single, fragment-first, fragment-suc}
+use Rattle.sender.proofs.SplitLaws.{fragment-fits}
 use Rattle.frame.specs.Frame.{frameOf}
 use Rattle.frame.proofs.FrameLaws.{build-accepted, build-answer}
 use Rattle.receiver.specs.Join.{more, done}
@@ -66,25 +67,16 @@ module _ (m : ℕ) (x : Sending) (a : Accepted m x) where
   pub message-exists : CodedFrom (x .message) → Message m x (linesOf m x)
   message-exists c = record { source = c; sent = a .sent; frames = frames-exist }
 
--- ---- fragments of one byte up to the field
+-- ---- what sender and frame ask of a message
 
-module _ (m : ℕ) (message : List ℕ) (field : ℕ) (low : 3 ≤ field) (some-bytes : 0 < length message) where
-  fragment-some : (k : ℕ) → 0 < length (fragmentOf message field m k)
-  fragment-some zero =
-      by-le (length message) field
-      (λ l. omega (arith, ap length (fragment-single message field m l)))
-      (λ l. omega (arith, ap length (fragment-first message field m l)))
-  fragment-some (suc k) = omega (arith, ap length (fragment-suc message field m k))
+fragment-some : (message : List ℕ) (field m : ℕ) → 0 < length message → (k : ℕ) → 0 < length (fragmentOf message field m k)
+fragment-some message field m some-bytes zero =
+    by-le (length message) field
+    (λ l. omega (arith, ap length (fragment-single message field m l)))
+    (λ l. omega (arith, ap length (fragment-first message field m l)))
+fragment-some message field m some-bytes (suc k) = omega (arith, ap length (fragment-suc message field m k))
 
-  fragment-fits : (k : ℕ) → length (fragmentOf message field m k) ≤ field
-  fragment-fits zero =
-      by-le (length message) field
-      (λ l. omega (arith, ap length (fragment-single message field m l)))
-      (λ l. omega (arith, low, ap length (fragment-first message field m l), length-take (field - 2) (drop 1 message)))
-  fragment-fits (suc k) =
-      omega (arith, low, ap length (fragment-suc message field m k), length-take (field - 1) (drop (field - 2 + k * (field - 1)) (drop 1 message)))
-
--- what sender and frame ask of a message with its controls and markers
+-- with its controls and markers
 module _ (m : ℕ) (x : Sending) (able : Sendable (x .message) (x .field) m) where
   pub accepted-by : ((k : ℕ) → k < countIn x → (x .marker k ≡ 0x14 → ⊥) × (x .control k .reply ≤ 3) × (x .control k .hint ≤ 7)) → Accepted m x
   accepted-by marked =
@@ -92,8 +84,8 @@ module _ (m : ℕ) (x : Sending) (able : Sendable (x .message) (x .field) m) whe
       record {
         sent = accepted-is (send-answer (x .message) (x .field) m 0 able (count-pos (length (x .message)) (x .field)));
         framed = λ k h. accepted-is (build-answer (x .field) (fragmentOf (x .message) (x .field) m k) (x .control k) (x .marker k) (able .field-ok)
-            (fragment-some m (x .message) (x .field) low (able .some) k)
-            (fragment-fits m (x .message) (x .field) low (able .some) k)
+            (fragment-some (x .message) (x .field) m (able .some) k)
+            (fragment-fits (x .message) (x .field) m low k)
             (marked k h .0) (marked k h .1) (marked k h .2));
       }
 
