@@ -111,13 +111,14 @@ impl Sending {
     }
 }
 
-/// Messages of the most fragments that the masks leave room for: 17 under F0, and 129 under 80.
-fn sendings() -> [Sending; 3] {
+/// Messages of the most fragments that the masks leave room for: 17 under F0, and 129 under 80, by fields of 40 and of 3.
+fn sendings() -> [Sending; 4] {
     let mut r = Random::new();
     [
         Sending::new("field 300", OTHER_BAR, 300, HF_CRC_MASK, message(&mut r, 4800)),
         Sending::new("field 64", OTHER_BAR, 64, HF_CRC_MASK, message(&mut r, 1050)),
         Sending::new("mask 80", MASK_BAR, 40, 0x80, message(&mut r, 5000)),
+        Sending::new("mask 80", MASK_BAR, 3, 0x80, message(&mut r, 258)),
     ]
 }
 

@@ -275,17 +275,11 @@ impl Reassembler {
         refusals::MASK
     }
 
-    // A fragment: the n first bytes of f.
-    pub fn join(self, store: &mut [u8], f: &[u8], n: usize) -> Pushed
+    // A fragment, where the state is not refused: the n first bytes of f.
+    fn joined(self, store: &mut [u8], f: &[u8], n: usize) -> Pushed
+        requires { ⌜ refusalOf self (length (now store)) ≡ 0 ⌝ }
         ensures { λ r. ⌜ after r (now (store .exit)) ≡ joinOf self (now (store .entry)) (now (f .entry)) n ⌝ }
     {
-        let code = self.refusal(store.len());
-        if code != 0 {
-            return Pushed {
-                answer: Push::Refused(code),
-                receiver: self,
-            };
-        }
         if n == 0 {
             return Pushed {
                 answer: Push::Dropped,
@@ -299,6 +293,20 @@ impl Reassembler {
             };
         }
         self.accept(store, f, n)
+    }
+
+    // A fragment: the n first bytes of f.
+    pub fn join(self, store: &mut [u8], f: &[u8], n: usize) -> Pushed
+        ensures { λ r. ⌜ after r (now (store .exit)) ≡ joinOf self (now (store .entry)) (now (f .entry)) n ⌝ }
+    {
+        let code = self.refusal(store.len());
+        if code != 0 {
+            return Pushed {
+                answer: Push::Refused(code),
+                receiver: self,
+            };
+        }
+        self.joined(store, f, n)
     }
 
     // A frame of field + 3 bytes.
@@ -325,6 +333,6 @@ impl Reassembler {
             };
         }
         let n = fragment_length(f, field);
-        self.join(store, f, n)
+        self.joined(store, f, n)
     }
 }

@@ -40,8 +40,10 @@ returns-3 c =
 fragment-length-requires : tie.Need-fragment-length-requires
 fragment-length-requires c κs = search needs
 
-join-requires : tie.Need-join-requires
-join-requires c κs = search needs
+joined-requires : tie.Need-joined-requires
+joined-requires c κs =
+    let i1 = c .before .before .before .before .before in
+    sym (i1 .before .refusal .ensures) ∙ i1 .if1 .left
 
 same-length : tie.Need-same-length
 same-length c = search needs
@@ -53,7 +55,7 @@ returns-4 c =
     let e3 = z .before in
     let e2 = e3 .before in
     let r = e2 .before .before .before in
-    j .join .ensures
+    j .joined .ensures
     ∙ rw (z .fragment-length .ensures)
     (sym (push-on _ _ _ _ (sym (r .refusal .ensures) ∙ e2 .before .before .if1 .left) (sym (e2 .before .field-ok .ensures) ∙ not-false _ (e2 .if2 .left)) (e3 .if3 .left)))
 
@@ -68,6 +70,6 @@ push-spec =
     add-if3
     returns-3
     fragment-length-requires
-    join-requires
+    joined-requires
     same-length
     returns-4)
