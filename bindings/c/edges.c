@@ -1,9 +1,10 @@
 /*
  * Every output length from 0 to one more than the answer's, every refusal's number, frames and fragments of every length, texts
- * with white space and the bytes beside it at their edges, every mask with its longest messages and its worked examples, and
- * receiver states that no call leads to. Every field of every answer is looked at, flags as the bytes that they are, and every
- * input for being unchanged. Every buffer has its exact length on the heap, so that valgrind sees a byte read or written beside
- * it. Prints how many calls were held against what is to be expected; the exit status is 1 where one differs.
+ * with white space and the bytes beside it at their edges, every mask with its longest messages and its worked examples, the
+ * lengths of fragments, and receiver states that no call leads to. Every field of every answer is looked at, flags as the bytes
+ * that they are, and every input for being unchanged. Every buffer has its exact length on the heap, so that valgrind sees a byte
+ * read or written beside it. Prints how many calls were held against what is to be expected; the exit status is 1 where one
+ * differs.
  */
 #include "xara.h"
 
@@ -184,12 +185,20 @@ static void frame_rooms(const uint8_t *fragment, size_t n, size_t field)
     free(whole);
 }
 
-/* Fragment k into every room, then framed. */
-static void fragment_rooms(const uint8_t *message, size_t n, size_t field, uint8_t mask, size_t k)
+/* Fragment k of so many may have this length: of several each before the last has exactly field bytes, the last at least 2. */
+static bool booked(size_t length, size_t field, size_t k, size_t count)
+{
+    if (k + 1 < count)
+        return length == field;
+    return length >= (count > 1 ? 2 : 1) && length <= field;
+}
+
+/* Fragment k of so many into every room, then framed. */
+static void fragment_rooms(const uint8_t *message, size_t n, size_t field, uint8_t mask, size_t k, size_t count)
 {
     uint8_t *lent = copied(message, n), *whole = filled(field);
     XaraAnswer full = xara_fragment(lent, n, field, mask, k, whole, field);
-    expect(answered(full, 0, full.value) && full.value <= field, "fragment", k);
+    expect(answered(full, 0, full.value) && booked(full.value, field, k, count), "fragment", k);
     for (size_t room = 0; room <= full.value + 1; room++) {
         uint8_t *out = filled(room);
         XaraAnswer a = xara_fragment(lent, n, field, mask, k, out, room);
@@ -208,7 +217,7 @@ static void sender_rooms(const uint8_t *message, size_t n, size_t field, uint8_t
     uint8_t *lent = copied(message, n), *out = filled(field);
     expect(answered(xara_count_for_field(n, field), 0, count), "count", n);
     for (size_t k = 0; k < count; k++)
-        fragment_rooms(message, n, field, mask, k);
+        fragment_rooms(message, n, field, mask, k, count);
     XaraAnswer past = xara_fragment(lent, n, field, mask, count, out, field);
     expect(answered(past, XARA_REFUSAL_NUMBER, 0) && untouched(out, field), "number", count);
     expect(memcmp(lent, message, n) == 0, "message to send", n);
@@ -536,21 +545,31 @@ static void mask_limits(void)
     }
 }
 
-/* Fragment k of the message of document 01 is these bytes, or is refused with 12 where there are none. */
-static void sent(size_t field, uint8_t mask, size_t k, const uint8_t *fragment, size_t n)
+/* A message to send at a field under a mask. */
+typedef struct {
+    const uint8_t *bytes;
+    size_t length, field;
+    uint8_t mask;
+} Sending;
+
+/* Fragment k is these bytes, or is refused with 12 where there are none. */
+static void sent(Sending s, size_t k, const uint8_t *fragment, size_t n)
 {
-    static const uint8_t message[] = {0x40, 0xAC, 0xB7, 0x01, 0x00, 0x10, 0x40};
-    uint8_t *lent = copied(message, sizeof message), *out = filled(field);
-    XaraAnswer a = xara_fragment(lent, sizeof message, field, mask, k, out, field);
-    expect(answered(a, n == 0 ? XARA_REFUSAL_COUNT : 0, n) && written(out, field, fragment, n), "worked example", mask);
-    expect(memcmp(lent, message, sizeof message) == 0, "worked example's message", mask);
+    uint8_t *lent = copied(s.bytes, s.length), *out = filled(s.field);
+    XaraAnswer a = xara_fragment(lent, s.length, s.field, s.mask, k, out, s.field);
+    expect(answered(a, n == 0 ? XARA_REFUSAL_COUNT : 0, n) && written(out, s.field, fragment, n), "worked example", s.mask);
+    expect(memcmp(lent, s.bytes, s.length) == 0, "worked example's message", s.mask);
     free(lent);
     free(out);
 }
 
-/* The first fragment of that message at field 5 and the second, and the first of four at field 3, for which FE has no room. */
+/*
+ * The first fragment of document 01's message at field 5 and the second, and the first of four at field 3, for which FE has no
+ * room.
+ */
 static void worked_examples(void)
 {
+    static const uint8_t message[] = {0x40, 0xAC, 0xB7, 0x01, 0x00, 0x10, 0x40};
     static const uint8_t second[] = {0x40, 0x00, 0x10, 0x40};
     static const uint8_t at_5[MASKS][5] = {{0xC0, 0x00, 0xAC, 0xB7, 0x01}, {0xC0, 0x40, 0xAC, 0xB7, 0x01},
                                            {0xC0, 0x40, 0xAC, 0xB7, 0x01}, {0xC0, 0x40, 0xAC, 0xB7, 0x01},
@@ -560,10 +579,48 @@ static void worked_examples(void)
                                            {0xC0, 0x4A, 0xAC}, {0xC0, 0x4E, 0xAC}, {0}};
     expect(answered(xara_count_for_field(7, 3), 0, 4), "worked example", 0);
     for (size_t i = 0; i < MASKS; i++) {
-        sent(5, masks[i].mask, 0, at_5[i], 5);
-        sent(5, masks[i].mask, 1, second, 4);
-        sent(3, masks[i].mask, 0, at_3[i], masks[i].mask == 0xFE ? 0 : 3);
+        Sending by_5 = {message, sizeof message, 5, masks[i].mask}, by_3 = {message, sizeof message, 3, masks[i].mask};
+        sent(by_5, 0, at_5[i], 5);
+        sent(by_5, 1, second, 4);
+        sent(by_3, 0, at_3[i], masks[i].mask == 0xFE ? 0 : 3);
     }
+}
+
+/* Messages of 21 and zeros, with the lengths of their fragments at a field and 0 after the last: the same under every mask. */
+#define SLOTS 13
+static const struct {
+    size_t n, field, lengths[4];
+} slots[SLOTS] = {{1, 3, {1}},       {3, 3, {3}},       {4, 3, {3, 3}},        {5, 3, {3, 3, 2}}, {5, 5, {5}},
+                  {6, 5, {5, 3}},    {8, 5, {5, 5}},    {9, 5, {5, 5, 2}},     {24, 24, {24}},    {25, 24, {24, 3}},
+                  {24, 10, {10, 10, 7}}, {513, 512, {512, 3}}, {1023, 512, {512, 512, 2}}};
+
+/* A message of 21 and zeros has just fragments of these lengths. */
+static void slot_lengths(size_t n, size_t field, const size_t *lengths, uint8_t mask)
+{
+    static const uint8_t message[1023] = {0x21};
+    uint8_t *lent = copied(message, n), *out = filled(field);
+    size_t k = 0;
+    for (; lengths[k] != 0; k++)
+        expect(answered(xara_fragment(lent, n, field, mask, k, out, field), 0, lengths[k]), "length of a fragment", n);
+    expect(answered(xara_fragment(lent, n, field, mask, k, out, field), XARA_REFUSAL_NUMBER, 0), "number after the last", n);
+    expect(answered(xara_count_for_field(n, field), 0, k), "count of fragments", n);
+    expect(memcmp(lent, message, n) == 0, "message to send", n);
+    free(lent);
+    free(out);
+}
+
+/* The rows, and the bytes of six and of nine by fields of 5. */
+static void slot_examples(void)
+{
+    static const uint8_t message[9] = {0x21}, six[2][5] = {{0xA1, 0x80}, {0x21}}, nine[3][5] = {{0xA1, 0xA1}, {0xA1}, {0x21}};
+    Sending of_six = {message, 6, 5, XARA_MASK_HF}, of_nine = {message, 9, 5, XARA_MASK_HF};
+    for (size_t i = 0; i < MASKS * SLOTS; i++)
+        slot_lengths(slots[i / MASKS].n, slots[i / MASKS].field, slots[i / MASKS].lengths, masks[i % MASKS].mask);
+    sent(of_six, 0, six[0], 5);
+    sent(of_six, 1, six[1], 3);
+    sent(of_nine, 0, nine[0], 5);
+    sent(of_nine, 1, nine[1], 5);
+    sent(of_nine, 2, nine[2], 2);
 }
 
 /* The frame of a fragment of so many bytes is refused with this at field 5, and nothing is changed. */
@@ -822,6 +879,7 @@ int main(void)
     mask_macros();
     mask_limits();
     worked_examples();
+    slot_examples();
     frame_refusals();
     state_refusals();
     receiver_masks();

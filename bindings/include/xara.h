@@ -218,7 +218,8 @@ uint16_t xara_crc16_genibus(const uint8_t *data, size_t data_len);
 XaraAnswer xara_count_for_field(size_t total, size_t field);
 
 /*
- * Fragment k of a message, counted from 0, to the front of out; answers its length, at most field.
+ * Fragment k of a message, counted from 0, to the front of out; answers its length, at most field: of several fragments each
+ * before the last has exactly field bytes, the last at least 2. One fragment alone is the message.
  * Refuses with FIELD, MASK, EMPTY, TOO_LONG, FIRST_BYTE, COUNT, NUMBER, OUTPUT, in this order.
  */
 XaraAnswer xara_fragment(const uint8_t *message, size_t message_len, size_t field, uint8_t mask, size_t k, uint8_t *out,

@@ -2,6 +2,7 @@
 
 use crate::lent::{Input, Lent};
 use crate::masks;
+use crate::slots::Booking;
 use crate::tally::{Kind, Row, Tally};
 use crate::writing::Writing;
 use crate::xara::{self, Answer, Control};
@@ -104,6 +105,9 @@ const FEW: usize = 18;
 /// Some fragments of a message and some after the last, with outputs that are too short, exact and longer.
 fn fragments_of(message: &[u8], field: usize, mask: u8, r: &mut Random, tally: &mut Tally) {
     let split = answers::sent(message, field, mask);
+    if let Ok(list) = &split {
+        Booking { message, field, mask }.compare(Kind::Slots, list, tally);
+    }
     let count = split.as_ref().map_or(1, Vec::len);
     for k in some_below(count, r).into_iter().chain([count, count + 1, r.number() as usize, usize::MAX]) {
         let expected = match &split {

@@ -7,6 +7,7 @@ use crate::histories;
 use crate::lent::Lent;
 use crate::receiver::Pair;
 use crate::rules::Call;
+use crate::slots::Booking;
 use crate::tally::{Kind, Tally};
 use crate::xara::{Control, Heard};
 use answers::random::Random;
@@ -90,7 +91,9 @@ impl Journey {
             let out = [Lent::new(r, field)];
             same &= calls::fragment(Kind::Journey, message, Number { field, mask, k }, expected, out, tally);
         }
-        split.ok().filter(|_| same)
+        let list = split.ok()?;
+        same &= Booking { message, field, mask }.compare(Kind::Journey, &list, tally);
+        same.then_some(list)
     }
 
     /// A frame is pushed, and the message that is done by it decoded. None where something is not as expected.

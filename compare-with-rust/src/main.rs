@@ -9,6 +9,7 @@ mod lent;
 mod masks;
 mod receiver;
 mod rules;
+mod slots;
 mod spoil;
 mod tally;
 mod writing;

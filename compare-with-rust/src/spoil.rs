@@ -1,5 +1,6 @@
 //! Rows that are spoiled on purpose, one part after the other, to see that each such change is found.
 
+use crate::slots::Slots;
 use crate::tally::{KINDS, Row, same};
 use crate::xara::{Answer, Decoded, Encoded, Fresh, Pushed, Receiver, Summary};
 use std::any::type_name;
@@ -49,6 +50,7 @@ macro_rules! parts {
 }
 
 parts!(Answer: ok, refusal, value);
+parts!(Slots: count, full, last);
 parts!(Receiver: held, nfrag, count, crc_mask, overflow);
 parts!(Fresh: ok, refusal, receiver.held, receiver.nfrag, receiver.count, receiver.crc_mask, receiver.overflow);
 parts!(
@@ -172,6 +174,7 @@ mod tests {
     #[test]
     fn fields() {
         every_field(Answer::of(Ok(7)));
+        every_field(Slots { count: 3, full: 2, last: 1 });
         every_field(Receiver::default());
         every_field(Fresh::of(Err(9)));
         every_field(Pushed::of(crate::xara::Heard::Done(7), Receiver::default()));

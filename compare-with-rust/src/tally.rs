@@ -10,6 +10,7 @@ pub enum Kind {
     Crc,
     Count,
     Fragment,
+    Slots,
     Frame,
     New,
     Push,
@@ -24,12 +25,13 @@ pub enum Kind {
 }
 
 /// How many kinds there are.
-pub const KINDS: usize = 14;
+pub const KINDS: usize = 15;
 
 const ROWS: [&str; KINDS] = [
     "crc",
     "count",
     "fragment",
+    "fragment lengths",
     "frame",
     "receiver new",
     "receiver push",
@@ -83,6 +85,9 @@ pub struct Tally {
     made_up_answered: u64,
     every_room: u64,
     cut: BTreeMap<Result<u8, u8>, Cut>,
+    several: u64,
+    shortest_last: u64,
+    full_last: u64,
     coded: BTreeMap<Result<u8, u8>, u64>,
     decoded: BTreeMap<Result<u8, u8>, u64>,
     longest: usize,
@@ -158,6 +163,15 @@ impl Tally {
         cut.most = cut.most.max(place.unwrap_or_default());
     }
 
+    /// Counts the messages of several fragments by their last one: the shortest that there is has 2 bytes, the longest is full.
+    pub fn slots(&mut self, lengths: &[usize], field: usize) {
+        if let [_, .., last] = lengths {
+            self.several += 1;
+            self.shortest_last += u64::from(*last == 2);
+            self.full_last += u64::from(*last == field);
+        }
+    }
+
     /// Counts the types and the refusals of the coder.
     pub fn coded(&mut self, met: Result<u8, u8>) {
         *self.coded.entry(met).or_default() += 1;
@@ -197,6 +211,10 @@ impl Tally {
         text += &format!("made up: {} answered, {} refused\n", self.made_up_answered, self.made_up_refused);
         text += &format!("with every output length from 0: {} calls\n", self.every_room);
         text += &format!("cut: {}\n", told_cut(&self.cut));
+        text += &format!(
+            "of several fragments: {} messages, the last has 2 bytes in {} and field bytes in {}\n",
+            self.several, self.shortest_last, self.full_last
+        );
         text += &format!("coded: {}\n", told("type", &self.coded));
         text += &format!("decoded: {}, at most {} bytes\n", told("command", &self.decoded), self.longest);
         text + &format!("journeys: {} decoded, {} unchanged\n", self.decoded_journeys, self.unchanged_journeys)

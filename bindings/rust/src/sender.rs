@@ -25,7 +25,8 @@ pub fn count_for_field(total: usize, field: usize) -> Result<usize, Refusal> {
 
 /// Fragment k of a message, counted from 0, in a lent output.
 ///
-/// As many bytes as the field has are enough for every fragment. Refuses with [`Refusal::Field`], [`Refusal::Empty`],
+/// Of several fragments each before the last has exactly field bytes, the last at least 2. One fragment alone is the message. As
+/// many bytes as the field has are enough for every fragment. Refuses with [`Refusal::Field`], [`Refusal::Empty`],
 /// [`Refusal::TooLong`], [`Refusal::FirstByte`], [`Refusal::Count`], [`Refusal::Number`], [`Refusal::Output`], in this order.
 ///
 /// ```
@@ -33,6 +34,7 @@ pub fn count_for_field(total: usize, field: usize) -> Result<usize, Refusal> {
 ///
 /// let message = [0x40, 0xAC, 0xB7, 0x01, 0x00, 0x10, 0x40];
 /// let mut out = [0; 5];
+/// assert_eq!(xara::fragment(&message, 5, Mask::Hf, 0, &mut out)?.len(), 5);
 /// assert_eq!(xara::fragment(&message, 5, Mask::Hf, 1, &mut out)?, [0x40, 0x00, 0x10, 0x40]);
 /// assert_eq!(xara::fragment(&message, 5, Mask::Hf, 2, &mut out), Err(Refusal::Number));
 /// # Ok::<(), Refusal>(())
@@ -52,7 +54,8 @@ pub fn fragment<'a>(
 /// All fragments of a message, one after the other.
 ///
 /// Refuses with [`Refusal::Field`], [`Refusal::Empty`], [`Refusal::TooLong`], [`Refusal::FirstByte`], [`Refusal::Count`], in
-/// this order. What is accepted has its exact count of fragments.
+/// this order. What is accepted has its exact count of fragments. Of several each before the last has exactly field bytes, the last at
+/// least 2, so that slots can be booked from the count.
 ///
 /// ```
 /// use xara::Mask;
@@ -62,6 +65,13 @@ pub fn fragment<'a>(
 /// assert_eq!(fragments.len(), 2);
 /// let all: Vec<Vec<u8>> = fragments.map(|fragment| fragment.to_vec()).collect();
 /// assert_eq!(all, [vec![0xC0, 0x40, 0xAC, 0xB7, 0x01], vec![0x40, 0x00, 0x10, 0x40]]);
+///
+/// let lengths = |message: &[u8], field| -> Result<Vec<usize>, xara::Refusal> {
+///     Ok(xara::fragments(message, field, Mask::Hf)?.map(|fragment| fragment.len()).collect())
+/// };
+/// assert_eq!(lengths(&[0x21; 24], 10)?, [10, 10, 7]);
+/// assert_eq!(lengths(&[0x21; 24], 24)?, [24]);
+/// assert_eq!(lengths(&[0x21; 9], 5)?, [5, 5, 2]);
 /// # Ok::<(), xara::Refusal>(())
 /// ```
 pub fn fragments(message: &[u8], field: usize, mask: Mask) -> Result<Fragments<'_>, Refusal> {
@@ -105,7 +115,8 @@ impl fmt::Debug for Fragment {
     }
 }
 
-/// The fragments of a message that was accepted; made by [`fragments`].
+/// The fragments of a message that was accepted; made by [`fragments`]. Of several each before the last has exactly field bytes, the
+/// last at least 2.
 #[derive(Clone, Debug)]
 pub struct Fragments<'a> {
     message: &'a [u8],

@@ -1,4 +1,5 @@
--- Document 01's edges marked P, and masks of 1 to 7 check bits (02, E11): two tables that hold of the definitions as a whole.
+-- Document 01's edges marked P, masks of 1 to 7 check bits (02, E11) and the lengths of fragments (02, E1): three tables that hold of the
+-- definitions as a whole.
 -- Assumes nothing.
 use mathlib.Core.Path.{_≡_, refl}
 use mathlib.Core.Bool.{Bool, true, false, _&&_, not}
@@ -7,6 +8,7 @@ use mathlib.Core.Option.{Option, none, some}
 use Prim.Native.Nat.{ℕ, zero, suc, _+_, _%_}
 use Prim.Native.String.{String}
 use lib.Bits.{bitAnd}
+use lib.ListN.{length, replicate}
 use lib.Dec.{leb, eqb}
 use Rattle.laws.specs.Bits.{odd, num, bitsOf, valueOf, fit, packN, pack, unpack}
 use Rattle.laws.specs.Pick.{pick}
@@ -40,6 +42,7 @@ pub data Edge : Type 0 where
   longest : ℕ → ℕ → Edge  -- a mask, the bytes of the longest message at field 3: so many are sent, and one more is refused with 12
   leaves : ℕ → ℕ → Edge  -- a mask, the largest count: a byte has no bit of the mask exactly where it is at most that count − 2
   sends : List ℕ → ℕ → ℕ → ℕ → List ℕ → Edge  -- a message, field, mask and k, fragment k
+  lengths : List ℕ → ℕ → ℕ → List ℕ → Edge  -- a message, field and mask, the lengths of all its fragments: after the last comes 13
   token : String → String → Edge  -- a call, its bits
   reads : String → String → Edge  -- bits, the call
 
@@ -143,6 +146,38 @@ masks =
     ∷ refuses message 3 0xFE 0 12
     ∷ []
 
+-- 21 and n zeros
+zeros : ℕ → List ℕ
+zeros n = 0x21 ∷ replicate n 0x00
+
+-- "of several fragments each one before the last has exactly field bytes, .. and .. the last has at least 2": the first of several with its
+-- check byte is full, too, and one fragment alone may have one byte
+pub booked : List Edge
+booked =
+    sends (zeros 5) 5 0xF0 0 (0xA1 ∷ 0x80 ∷ 0x00 ∷ 0x00 ∷ 0x00 ∷ [])
+    ∷ sends (zeros 5) 5 0xF0 1 (0x21 ∷ 0x00 ∷ 0x00 ∷ [])
+    ∷ sends (zeros 8) 5 0xF0 0 (0xA1 ∷ 0xA1 ∷ 0x00 ∷ 0x00 ∷ 0x00 ∷ [])
+    ∷ sends (zeros 8) 5 0xF0 1 (0xA1 ∷ 0x00 ∷ 0x00 ∷ 0x00 ∷ 0x00 ∷ [])
+    ∷ sends (zeros 8) 5 0xF0 2 (0x21 ∷ 0x00 ∷ [])
+    ∷ lengths (zeros 4) 5 0xF0 (5 ∷ [])
+    ∷ lengths (zeros 5) 5 0xF0 (5 ∷ 3 ∷ [])
+    ∷ lengths (zeros 7) 5 0xF0 (5 ∷ 5 ∷ [])
+    ∷ lengths (zeros 8) 5 0x80 (5 ∷ 5 ∷ 2 ∷ [])
+    ∷ lengths (zeros 8) 5 0xC0 (5 ∷ 5 ∷ 2 ∷ [])
+    ∷ lengths (zeros 8) 5 0xE0 (5 ∷ 5 ∷ 2 ∷ [])
+    ∷ lengths (zeros 8) 5 0xF0 (5 ∷ 5 ∷ 2 ∷ [])
+    ∷ lengths (zeros 8) 5 0xF8 (5 ∷ 5 ∷ 2 ∷ [])
+    ∷ lengths (zeros 8) 5 0xFC (5 ∷ 5 ∷ 2 ∷ [])
+    ∷ lengths (zeros 8) 5 0xFE (5 ∷ 5 ∷ 2 ∷ [])
+    ∷ lengths (zeros 23) 10 0xF0 (10 ∷ 10 ∷ 7 ∷ [])
+    ∷ lengths (zeros 23) 24 0xF0 (24 ∷ [])
+    ∷ lengths (zeros 24) 24 0xF0 (24 ∷ 3 ∷ [])
+    ∷ lengths (zeros 0) 3 0xF0 (1 ∷ [])
+    ∷ lengths (zeros 2) 3 0xF0 (3 ∷ [])
+    ∷ lengths (zeros 3) 3 0xF0 (3 ∷ 3 ∷ [])
+    ∷ lengths (zeros 4) 3 0xF0 (3 ∷ 3 ∷ 2 ∷ [])
+    ∷ []
+
 -- ---- tests of answers
 
 givesMessage : Outcome Coded → List ℕ → Bool
@@ -165,6 +200,15 @@ givesFragment : Outcome (List ℕ) → List ℕ → Bool
 givesFragment (refused n) f = false
 givesFragment (answer b) f = same b f
 
+givesLength : Outcome (List ℕ) → ℕ → Bool
+givesLength (refused n) size = false
+givesLength (answer b) size = eqb (length b) size
+
+-- of the fragments from k on
+givesLengths : List ℕ → ℕ → ℕ → ℕ → List ℕ → Bool
+givesLengths m field mask k [] = isRefused (sendOf m field mask k) 13
+givesLengths m field mask k (n ∷ ns) = givesLength (sendOf m field mask k) n && givesLengths m field mask (suc k) ns
+
 givesBits : Option (List Bool) → List ℕ → Bool
 givesBits none t = false
 givesBits (some b) t = same (map letter b) t
@@ -186,6 +230,7 @@ holds (refuses m field mask k n) = isRefused (sendOf m field mask k) n
 holds (longest mask n) = accepted (sendOf (from 1 n) 3 mask 0) && isRefused (sendOf (from 1 (suc n)) 3 mask 0) 12
 holds (leaves mask most) = eqb (mostOf mask) most && below (λ x. alike (leb (x + 2) most) (eqb (bitAnd x mask) 0)) 256
 holds (sends m field mask k f) = givesFragment (sendOf m field mask k) f
+holds (lengths m field mask ns) = givesLengths m field mask 0 ns
 holds (token c b) = givesBits (tokenBits 6 (ascii c)) (ascii b)
 holds (reads b c) = givesCall (readToken 6 (map (λ x. eqb x 49) (ascii b))) (ascii c)
 
@@ -200,3 +245,7 @@ table-holds = refl
 pub masks-hold : all masks ≡ true
 unfolding topOf message from masks alike below givesCount isRefused givesFragment holds all odd num bitsOf valueOf pick same crcBit crcSteps crcByte crcFrom crcOf crcBits ceiling countOf countFor checkOf leadOf fragmentOf mostOf sendOf
 masks-hold = refl
+
+pub booked-holds : all booked ≡ true
+unfolding topOf zeros booked isRefused givesFragment givesLength givesLengths holds all odd num bitsOf valueOf pick same crcBit crcSteps crcByte crcFrom crcOf crcBits ceiling countOf checkOf leadOf fragmentOf mostOf sendOf
+booked-holds = refl

@@ -1,10 +1,11 @@
--- The numbers are reached: a message that decodes to 45,764 bytes, and data that are coded into 5,000.
+-- The numbers are reached: a message that decodes to 45,764 bytes, data that are coded into 5,000, and for every field and mask messages
+-- whose fragments have field, field and 2 bytes.
 -- Assumes nothing.
 use mathlib.Core.Path.{_≡_, refl, ap, _∙_}
 use mathlib.Core.Bool.{Bool, true, false}
 use mathlib.Core.List.{List, [], _∷_, _++_}
 use mathlib.Core.Option.{some}
-use Prim.Native.Nat.{ℕ, zero, suc, _+_, _*_}
+use Prim.Native.Nat.{ℕ, zero, suc, _+_, _*_, _<_}
 use native.Mathlib.Omega.{arith}
 use lib.ListN.{length, drop, length-append, length-replicate, replicate, getD}
 use borrow.Author.Tests.{le-ltb}
@@ -16,7 +17,14 @@ use Rattle.laws.proofs.TrimLaws.{length-filled}
 use Rattle.laws.proofs.ByteLaws.{length-pack, unpack-whole}
 use Rattle.bits.specs.Val.{stops, nextVal, valFrom, valOf}
 use Rattle.bits.proofs.ReadLaws.{take-bits, text-yes}
+use Rattle.refusals.specs.Limits.{fieldOk, maskOk}
 use Rattle.refusals.specs.Outcome.{Outcome, answer}
+use Rattle.refusals.proofs.LimitLaws.{field-low, field-high, mask-top}
+use Rattle.sender.specs.Send.{countOf, fragmentOf, sendOf}
+use Rattle.sender.proofs.CountLaws.{count-three}
+use Rattle.sender.proofs.FullLaws.{shortest-last}
+use Rattle.sender.proofs.MaskLaws.{most-three}
+use Rattle.sender.proofs.SendLaws.{Sendable, send-answer}
 use Rattle.ax25_token.specs.Token.{twoDigits, decimal, suffix, after, wideNumber, readToken}
 use Rattle.ax25_token.proofs.Cases as cases
 use Rattle.ax25_token.proofs.Cases.{pair-whole, form-wide, form-ap-name, token-form, read-pair, read-name}
@@ -36,6 +44,7 @@ use Rattle.kiss.specs.Generic.{genericOf}
 use Rattle.kiss.specs.Codec.{codeOf, decodeMessage, decodeSome, decodeOf}
 use Rattle.room.specs.Room.{mostDecoded, mostMessage}
 use Rattle.room.proofs.BodyRoom.{partyOf, party-size}
+use Rattle.room.proofs.SendRoom.{sent-full}
 
 -- ---- the text: a word of eight letters over and over, and a bit that is left
 
@@ -193,3 +202,34 @@ coded-reached =
       is = rw (le-ltb 4999 (length binary) (omega (arith, binary-size)), high-binary);
       size = omega (arith, binary-size);
     }
+
+-- ---- three fragments, for every field and mask: of any message of one byte less than two fields
+
+module _ (message : List ℕ) (field mask : ℕ) (f : fieldOk field ≡ true) (m : maskOk mask ≡ true) (first-low : getD message 0 0 < 128) (size : length message + 1 ≡ 2 * field) where
+  three : countOf (length message) field ≡ 3
+  three = count-three (length message) field (field-low field f) size
+
+  sendable : Sendable message field mask
+  sendable =
+      record {
+        field-ok = f;
+        mask-ok = m;
+        some = omega (arith, field-low field f);
+        short = omega (arith, field-high field f);
+        first-low = first-low;
+        room = omega (arith, three, most-three mask (mask-top mask m));
+      }
+
+  sent : (k : ℕ) → k < 3 → sendOf message field mask k ≡ answer (fragmentOf message field mask k)
+  sent k below = send-answer message field mask k sendable (omega (arith, three))
+
+  -- each before the last is full
+  pub full-reached : (k : ℕ) → k < 2 → Reached (λ v. v) (sendOf message field mask k) field
+  full-reached k before =
+      let is = sent k (omega arith) in
+      record { it = fragmentOf message field mask k; is = is; size = sent-full message field mask k (fragmentOf message field mask k) is (omega (arith, three)) }
+
+  -- the last is as short as may be
+  pub last-reached : Reached (λ v. v) (sendOf message field mask 2) 2
+  last-reached =
+      record { it = fragmentOf message field mask 2; is = sent 2 (omega arith); size = shortest-last message field mask (field-low field f) size }

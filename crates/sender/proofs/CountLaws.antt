@@ -66,6 +66,10 @@ module _ (n field : ℕ) where
           absurd (omega (arith, g, covers))
       two (suc q) e = omega (arith, count-many h, e)
 
+  -- and only a longer one does
+  pub count-several : 1 < countOf n field → field < n
+  count-several h = by-le n field (λ l. absurd (omega (arith, count-one l))) (λ l. l)
+
   -- fragment k starts within the message
   pub starts-within : (k : ℕ) → 3 ≤ field → field < n → k < countOf n field → k * (field - 1) < n
   starts-within k l h c =
@@ -85,3 +89,19 @@ count-within n field q low fits =
         by-le (ceiling (n + 1 - field) (field - 1)) q
         (λ l. l)
         (λ l. absurd (omega (arith, h, fits, low, mul-le-mul-right (field - 1) l)))
+
+-- a message of one byte less than two fields takes three
+pub count-three : (n field : ℕ) → 3 ≤ field → n + 1 ≡ 2 * field → countOf n field ≡ 3
+count-three n field low size =
+    let long : field < n = omega arith in
+    omega (arith, more, count-many n field long, count-within n field 2 low (omega arith))
+  where
+    q : ℕ
+    q = ceiling (n + 1 - field) (field - 1)
+
+    more : 2 ≤ q
+    more =
+        by-le 2 q
+        (λ h. h)
+        (λ h. let l : q ≤ 1 = omega arith in
+        absurd (omega (arith, mul-le-mul-right (field - 1) l, ceiling-covers (n + 1 - field) (field - 1) (omega arith))))

@@ -1,4 +1,5 @@
 pub mod CountLaws
+pub mod FullLaws
 pub mod MaskLaws
 pub mod SendLaws
 pub mod SplitLaws

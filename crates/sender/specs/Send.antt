@@ -46,7 +46,8 @@ unfoldable pub leadOf : ℕ → ℕ → ℕ → ℕ
 leadOf first k count = pick (ltb (suc k) count) (first + 0x80) first
 
 -- fragment k, counted from 0: "the message's first byte, 80 set on all but the last; in the first of several, a check byte; then the
--- next message bytes. Each fragment has at most field bytes."
+-- next message bytes. Each fragment has at most field bytes." For "of several fragments each one before the last has exactly field bytes,
+-- where 01 said at most, and .. the last has at least 2" (02, E1) see `fragment-full` and `fragment-last` in proofs/FullLaws
 unfoldable pub fragmentOf : List ℕ → ℕ → ℕ → ℕ → List ℕ
 fragmentOf message field mask zero =
     pick (leb (length message) field)
