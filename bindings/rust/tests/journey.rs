@@ -90,22 +90,28 @@ fn a_frame_is_lost_and_the_report_sent_again() {
     assert_eq!(heard(&message, 10, Mask::Hf, &mut receiver, usize::MAX).0, "mmmD");
 }
 
-/// Of several fragments each before the last has exactly field bytes, the last at least 2; one alone is the message.
+/// Of several fragments each before the last has exactly field bytes, the last at least 2. One fragment alone is the message.
+fn full_before_the_last(length: usize, field: usize, mask: Mask) {
+    let message = vec![0x21; length];
+    let fragments = xara::fragments(&message, field, mask).expect("accepted");
+    let lengths: Vec<usize> = fragments.map(|fragment| fragment.len()).collect();
+    assert_eq!(xara::count_for_field(length, field), Ok(lengths.len()));
+    let full = match lengths[..] {
+        [one] => one == length,
+        [ref before @ .., last] => before.iter().all(|&n| n == field) && (2..=field).contains(&last),
+        [] => false,
+    };
+    assert!(full, "{length} bytes by fields of {field}: {lengths:?}");
+}
+
 #[test]
 fn each_fragment_before_the_last_is_full() {
     for mask in Mask::ALL {
         for field in [3, 4, 5, 40, 511, 512] {
             let most = (mask.max_fragments() * (field - 1)).min(xara::MAX_MESSAGE);
             let edges = (1..=mask.max_fragments()).flat_map(|count| [count * (field - 1), count * (field - 1) + 1]);
-            for length in edges.chain([1, 2, field, most]).filter(|&length| length <= most) {
-                let message = vec![0x21; length];
-                let fragments = xara::fragments(&message, field, mask).expect("accepted");
-                let lengths: Vec<usize> = fragments.map(|fragment| fragment.len()).collect();
-                let (last, before) = lengths.split_last().expect("a fragment");
-                assert!(before.iter().all(|&n| n == field), "{length} by {field}: {lengths:?}");
-                assert_eq!(*last, if before.is_empty() { length } else { length + lengths.len() - field * before.len() });
-                assert!((if before.is_empty() { 1 } else { 2 }..=field).contains(last), "{length} by {field}: {lengths:?}");
-                assert_eq!(xara::count_for_field(length, field), Ok(lengths.len()));
+            for length in edges.chain([1, most]).filter(|&length| length <= most) {
+                full_before_the_last(length, field, mask);
             }
         }
     }
