@@ -590,9 +590,21 @@ static void worked_examples(void)
 #define SLOTS 13
 static const struct {
     size_t n, field, lengths[4];
-} slots[SLOTS] = {{1, 3, {1}},       {3, 3, {3}},       {4, 3, {3, 3}},        {5, 3, {3, 3, 2}}, {5, 5, {5}},
-                  {6, 5, {5, 3}},    {8, 5, {5, 5}},    {9, 5, {5, 5, 2}},     {24, 24, {24}},    {25, 24, {24, 3}},
-                  {24, 10, {10, 10, 7}}, {513, 512, {512, 3}}, {1023, 512, {512, 512, 2}}};
+} slots[SLOTS] = {
+    {1, 3, {1}},
+    {3, 3, {3}},
+    {4, 3, {3, 3}},
+    {5, 3, {3, 3, 2}},
+    {5, 5, {5}},
+    {6, 5, {5, 3}},
+    {8, 5, {5, 5}},
+    {9, 5, {5, 5, 2}},
+    {24, 10, {10, 10, 7}},
+    {24, 24, {24}},
+    {25, 24, {24, 3}},
+    {513, 512, {512, 3}},
+    {1023, 512, {512, 512, 2}},
+};
 
 /* A message of 21 and zeros has just fragments of these lengths. */
 static void slot_lengths(size_t n, size_t field, const size_t *lengths, uint8_t mask)

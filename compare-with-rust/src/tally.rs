@@ -4,7 +4,7 @@ use crate::spoil::{Parts, Spoiled};
 use crate::xara::Heard;
 use std::collections::BTreeMap;
 
-/// What is compared: a call of each kind, and states.
+/// What is compared: a call of each kind, the lengths of fragments, and states.
 #[derive(Clone, Copy)]
 pub enum Kind {
     Crc,
