@@ -19,7 +19,7 @@ pub struct Slots {
 impl Slots {
     /// What document 02 asks of so many fragments.
     fn booked(count: usize) -> Self {
-        Slots { count, full: count.saturating_sub(1), last: 1 }
+        Slots { count, full: count - 1, last: 1 }
     }
 
     /// What fragments of these lengths have.
@@ -43,13 +43,12 @@ pub struct Booking<'a> {
 }
 
 impl Booking<'_> {
-    /// Whether the Rust's fragments have the lengths that its count books, and those that we hand out have them, too.
+    /// Whether the Rust's fragments have the lengths that are booked from its count, and those that we hand out have them, too.
     pub fn compare(self, kind: Kind, split: &[Vec<u8>], tally: &mut Tally) -> bool {
         let theirs: Vec<usize> = split.iter().map(Vec::len).collect();
         tally.slots(&theirs, self.field);
         let count = answers::count(self.message.len(), self.field).expect("a message that is accepted");
         let same = self.compare_one(kind, count, "the Rust's", &theirs, tally);
-        let count = xara::count(self.message.len(), self.field).value;
         self.compare_one(kind, count, "ours", &self.handed_out(), tally) && same
     }
 

@@ -16,7 +16,7 @@ use Rattle.refusals.specs.Limits.{maskOk}
 use Rattle.refusals.specs.Outcome.{Outcome, accepted, refused, answer, into, left}
 use Rattle.refusals.proofs.OutcomeLaws.{answer-not, same-answer, accepted-is, into-refused, into-short, into-fits}
 use Rattle.sender.specs.Send.{fragmentOf, sendOf}
-use Rattle.sender.proofs.SendLaws.{Sendable, send-past, send-answer, send-accepted, count-answer}
+use Rattle.sender.proofs.SendLaws.{Sendable, send-past, send-answer, send-is, send-accepted, count-answer}
 use Rattle.frame.specs.Frame.{frameOf, buildOf}
 use Rattle.frame.proofs.FrameLaws.{build-accepted}
 use Rattle.receiver.specs.Join.{Heard}
@@ -48,7 +48,7 @@ module _ (m : ℕ) (x : Sending) (s : Sendable (x .message) (x .field) m) where
       (λ l. absurd (answer-not (sym (send-answer (x .message) (x .field) m k s l) ∙ e)))
 
   fragment-is : (k : ℕ) {f : List ℕ} → sendOf (x .message) (x .field) m k ≡ answer f → f ≡ fragmentOf (x .message) (x .field) m k
-  fragment-is k e = same-answer (sym e ∙ send-answer (x .message) (x .field) m k s (below-count k e))
+  fragment-is k {f} e = sym (send-is (x .message) (x .field) m k f e .0)
 
   frames-are : (n k : ℕ) {ls : List Line} → k + n ≡ countIn x → Frames m x k ls → ls ≡ linesFrom m x k n
   unfolding linesFrom

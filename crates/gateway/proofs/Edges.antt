@@ -146,36 +146,36 @@ masks =
     ∷ refuses message 3 0xFE 0 12
     ∷ []
 
--- 21 and n zeros
-zeros : ℕ → List ℕ
-zeros n = 0x21 ∷ replicate n 0x00
+-- 21, and n zeros after it
+with-zeros : ℕ → List ℕ
+with-zeros n = 0x21 ∷ replicate n 0x00
 
 -- "of several fragments each one before the last has exactly field bytes, .. and .. the last has at least 2": the first of several with its
 -- check byte is full, too, and one fragment alone may have one byte
 pub booked : List Edge
 booked =
-    sends (zeros 5) 5 0xF0 0 (0xA1 ∷ 0x80 ∷ 0x00 ∷ 0x00 ∷ 0x00 ∷ [])
-    ∷ sends (zeros 5) 5 0xF0 1 (0x21 ∷ 0x00 ∷ 0x00 ∷ [])
-    ∷ sends (zeros 8) 5 0xF0 0 (0xA1 ∷ 0xA1 ∷ 0x00 ∷ 0x00 ∷ 0x00 ∷ [])
-    ∷ sends (zeros 8) 5 0xF0 1 (0xA1 ∷ 0x00 ∷ 0x00 ∷ 0x00 ∷ 0x00 ∷ [])
-    ∷ sends (zeros 8) 5 0xF0 2 (0x21 ∷ 0x00 ∷ [])
-    ∷ lengths (zeros 4) 5 0xF0 (5 ∷ [])
-    ∷ lengths (zeros 5) 5 0xF0 (5 ∷ 3 ∷ [])
-    ∷ lengths (zeros 7) 5 0xF0 (5 ∷ 5 ∷ [])
-    ∷ lengths (zeros 8) 5 0x80 (5 ∷ 5 ∷ 2 ∷ [])
-    ∷ lengths (zeros 8) 5 0xC0 (5 ∷ 5 ∷ 2 ∷ [])
-    ∷ lengths (zeros 8) 5 0xE0 (5 ∷ 5 ∷ 2 ∷ [])
-    ∷ lengths (zeros 8) 5 0xF0 (5 ∷ 5 ∷ 2 ∷ [])
-    ∷ lengths (zeros 8) 5 0xF8 (5 ∷ 5 ∷ 2 ∷ [])
-    ∷ lengths (zeros 8) 5 0xFC (5 ∷ 5 ∷ 2 ∷ [])
-    ∷ lengths (zeros 8) 5 0xFE (5 ∷ 5 ∷ 2 ∷ [])
-    ∷ lengths (zeros 23) 10 0xF0 (10 ∷ 10 ∷ 7 ∷ [])
-    ∷ lengths (zeros 23) 24 0xF0 (24 ∷ [])
-    ∷ lengths (zeros 24) 24 0xF0 (24 ∷ 3 ∷ [])
-    ∷ lengths (zeros 0) 3 0xF0 (1 ∷ [])
-    ∷ lengths (zeros 2) 3 0xF0 (3 ∷ [])
-    ∷ lengths (zeros 3) 3 0xF0 (3 ∷ 3 ∷ [])
-    ∷ lengths (zeros 4) 3 0xF0 (3 ∷ 3 ∷ 2 ∷ [])
+    sends (with-zeros 5) 5 0xF0 0 (0xA1 ∷ 0x80 ∷ 0x00 ∷ 0x00 ∷ 0x00 ∷ [])
+    ∷ sends (with-zeros 5) 5 0xF0 1 (0x21 ∷ 0x00 ∷ 0x00 ∷ [])
+    ∷ sends (with-zeros 8) 5 0xF0 0 (0xA1 ∷ 0xA1 ∷ 0x00 ∷ 0x00 ∷ 0x00 ∷ [])
+    ∷ sends (with-zeros 8) 5 0xF0 1 (0xA1 ∷ 0x00 ∷ 0x00 ∷ 0x00 ∷ 0x00 ∷ [])
+    ∷ sends (with-zeros 8) 5 0xF0 2 (0x21 ∷ 0x00 ∷ [])
+    ∷ lengths (with-zeros 4) 5 0xF0 (5 ∷ [])
+    ∷ lengths (with-zeros 5) 5 0xF0 (5 ∷ 3 ∷ [])
+    ∷ lengths (with-zeros 7) 5 0xF0 (5 ∷ 5 ∷ [])
+    ∷ lengths (with-zeros 8) 5 0x80 (5 ∷ 5 ∷ 2 ∷ [])
+    ∷ lengths (with-zeros 8) 5 0xC0 (5 ∷ 5 ∷ 2 ∷ [])
+    ∷ lengths (with-zeros 8) 5 0xE0 (5 ∷ 5 ∷ 2 ∷ [])
+    ∷ lengths (with-zeros 8) 5 0xF0 (5 ∷ 5 ∷ 2 ∷ [])
+    ∷ lengths (with-zeros 8) 5 0xF8 (5 ∷ 5 ∷ 2 ∷ [])
+    ∷ lengths (with-zeros 8) 5 0xFC (5 ∷ 5 ∷ 2 ∷ [])
+    ∷ lengths (with-zeros 8) 5 0xFE (5 ∷ 5 ∷ 2 ∷ [])
+    ∷ lengths (with-zeros 23) 10 0xF0 (10 ∷ 10 ∷ 7 ∷ [])
+    ∷ lengths (with-zeros 23) 24 0xF0 (24 ∷ [])
+    ∷ lengths (with-zeros 24) 24 0xF0 (24 ∷ 3 ∷ [])
+    ∷ lengths (with-zeros 0) 3 0xF0 (1 ∷ [])
+    ∷ lengths (with-zeros 2) 3 0xF0 (3 ∷ [])
+    ∷ lengths (with-zeros 3) 3 0xF0 (3 ∷ 3 ∷ [])
+    ∷ lengths (with-zeros 4) 3 0xF0 (3 ∷ 3 ∷ 2 ∷ [])
     ∷ []
 
 -- ---- tests of answers
@@ -247,5 +247,5 @@ unfolding topOf message from masks alike below givesCount isRefused givesFragmen
 masks-hold = refl
 
 pub booked-holds : all booked ≡ true
-unfolding topOf zeros booked isRefused givesFragment givesLength givesLengths holds all odd num bitsOf valueOf pick same crcBit crcSteps crcByte crcFrom crcOf crcBits ceiling countOf checkOf leadOf fragmentOf mostOf sendOf
+unfolding topOf with-zeros booked isRefused givesFragment givesLength givesLengths holds all odd num bitsOf valueOf pick same crcBit crcSteps crcByte crcFrom crcOf crcBits ceiling countOf checkOf leadOf fragmentOf mostOf sendOf
 booked-holds = refl

@@ -206,8 +206,8 @@ coded-reached =
 -- ---- three fragments, for every field and mask: of any message of one byte less than two fields
 
 module _ (message : List ℕ) (field mask : ℕ) (f : fieldOk field ≡ true) (m : maskOk mask ≡ true) (first-low : getD message 0 0 < 128) (size : length message + 1 ≡ 2 * field) where
-  three : countOf (length message) field ≡ 3
-  three = count-three (length message) field (field-low field f) size
+  takes-three : countOf (length message) field ≡ 3
+  takes-three = count-three (length message) field (field-low field f) size
 
   sendable : Sendable message field mask
   sendable =
@@ -217,19 +217,19 @@ module _ (message : List ℕ) (field mask : ℕ) (f : fieldOk field ≡ true) (m
         some = omega (arith, field-low field f);
         short = omega (arith, field-high field f);
         first-low = first-low;
-        room = omega (arith, three, most-three mask (mask-top mask m));
+        room = omega (arith, takes-three, most-three mask (mask-top mask m));
       }
 
-  sent : (k : ℕ) → k < 3 → sendOf message field mask k ≡ answer (fragmentOf message field mask k)
-  sent k below = send-answer message field mask k sendable (omega (arith, three))
+  each-sent : (k : ℕ) → k < 3 → sendOf message field mask k ≡ answer (fragmentOf message field mask k)
+  each-sent k below = send-answer message field mask k sendable (omega (arith, takes-three))
 
   -- each before the last is full
   pub full-reached : (k : ℕ) → k < 2 → Reached (λ v. v) (sendOf message field mask k) field
   full-reached k before =
-      let is = sent k (omega arith) in
-      record { it = fragmentOf message field mask k; is = is; size = sent-full message field mask k (fragmentOf message field mask k) is (omega (arith, three)) }
+      let is = each-sent k (omega arith) in
+      record { it = fragmentOf message field mask k; is = is; size = sent-full message field mask k (fragmentOf message field mask k) is (omega (arith, takes-three)) }
 
   -- the last is as short as may be
   pub last-reached : Reached (λ v. v) (sendOf message field mask 2) 2
   last-reached =
-      record { it = fragmentOf message field mask 2; is = sent 2 (omega arith); size = shortest-last message field mask (field-low field f) size }
+      record { it = fragmentOf message field mask 2; is = each-sent 2 (omega arith); size = shortest-last message field mask (field-low field f) size }

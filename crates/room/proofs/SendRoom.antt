@@ -1,19 +1,17 @@
 -- How many bytes a fragment and a frame have, and that an output of so many is never refused as too short.
 -- Assumes nothing.
 use mathlib.Core.Path.{_≡_, refl, sym, ap, _∙_}
-use mathlib.Core.Bool.{true}
 use mathlib.Core.List.{List}
 use Prim.Native.Nat.{ℕ, zero, suc, _+_, _≤_, _<_}
 use native.Mathlib.Omega.{arith}
 use lib.ListN.{length}
-use borrow.Author.Tests.{not-false}
 use Rattle.refusals.specs.declared.Answer.{Answer}
 use Rattle.refusals.specs.declared.Answer.the-variants.{Refused, Bytes}
-use Rattle.refusals.specs.Limits.{fieldOk}
 use Rattle.refusals.specs.Outcome.{Outcome, refused, answer, outcomeOf, left, into}
 use Rattle.refusals.proofs.LimitLaws.{field-low, field-high}
-use Rattle.refusals.proofs.OutcomeLaws.{answer-not, same-answer, same-refusal, accepted-is, past, told-refusal}
-use Rattle.sender.specs.Send.{countOf, fragmentOf, sendOf}
+use Rattle.refusals.proofs.OutcomeLaws.{answer-not, same-answer, same-refusal, accepted-is, told-refusal}
+use Rattle.sender.specs.Send.{countOf, sendOf}
+use Rattle.sender.proofs.SendLaws.{send-is}
 use Rattle.sender.proofs.SplitLaws.{fragment-fits}
 use Rattle.sender.proofs.FullLaws.{fragment-full, fragment-last}
 use Rattle.frame.specs.declared.Control.{Control}
@@ -22,32 +20,24 @@ use Rattle.frame.proofs.FrameLaws.{frame-length, build-accepted}
 use Rattle.room.specs.Room.{mostField, NotShort}
 use Rattle.room.proofs.OwnRefusals.{send-own, build-own}
 
--- what is handed out is fragment k, for a field that is accepted
-sent-is : (message : List ℕ) (field mask k : ℕ) (v : List ℕ) → sendOf message field mask k ≡ answer v → (fragmentOf message field mask k ≡ v) × (fieldOk field ≡ true)
-unfolding sendOf
-sent-is message field mask k v e =
-    let field-is = past _ _ _ _ e in
-    let rest = past _ _ _ _ (past _ _ _ _ (past _ _ _ _ (past _ _ _ _ (past _ _ _ _ (past _ _ _ _ (field-is .1) .1) .1) .1) .1) .1) in
-    (same-answer (rest .1), not-false (fieldOk field) (field-is .0))
-
 -- a fragment has at most field bytes
 pub sent-fits : (message : List ℕ) (field mask k : ℕ) (v : List ℕ) → sendOf message field mask k ≡ answer v → (length v ≤ field) × (field ≤ mostField)
 sent-fits message field mask k v e =
-    let s = sent-is message field mask k v e in
+    let s = send-is message field mask k v e in
     (omega (arith, ap length (s .0), fragment-fits message field mask (field-low field (s .1)) k), field-high field (s .1))
 
 -- "of several fragments each one before the last has exactly field bytes, .. and .. the last has at least 2" (02, E1)
 pub sent-full : (message : List ℕ) (field mask k : ℕ) (v : List ℕ) → sendOf message field mask k ≡ answer v → suc k < countOf (length message) field
     → length v ≡ field
 sent-full message field mask k v e before =
-    let s = sent-is message field mask k v e in
+    let s = send-is message field mask k v e in
     omega (arith, ap length (s .0), fragment-full message field mask (field-low field (s .1)) k before)
 
 pub sent-last : (message : List ℕ) (field mask k : ℕ) (v : List ℕ) → sendOf message field mask k ≡ answer v → suc k ≡ countOf (length message) field
     → 2 ≤ countOf (length message) field → 2 ≤ length v
 sent-last message field mask zero v e last several = absurd (omega arith)
 sent-last message field mask (suc k) v e last several =
-    let s = sent-is message field mask (suc k) v e in
+    let s = send-is message field mask (suc k) v e in
     omega (arith, ap length (s .0), fragment-last message field mask (field-low field (s .1)) k last)
 
 -- a frame has three more

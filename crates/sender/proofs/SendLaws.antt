@@ -8,12 +8,12 @@ use native.Mathlib.Omega.{arith}
 use lib.ListN.{length, getD, take, drop}
 use lib.Seq.{drop-drop}
 use lib.Dec.{leb}
-use borrow.Author.Tests.{eq-eqb, ne-eqb, lt-ltb, le-ltb, le-leb, lt-leb}
+use borrow.Author.Tests.{eq-eqb, ne-eqb, lt-ltb, le-ltb, le-leb, lt-leb, not-false}
 use Rattle.laws.specs.Pick.{pick}
 use Rattle.laws.proofs.Cases.{by-test, by-le, pick-true, pick-false}
 use Rattle.refusals.specs.Limits.{fieldOk, maskOk}
 use Rattle.refusals.specs.Outcome.{refused, answer, accepted}
-use Rattle.refusals.proofs.OutcomeLaws.{not-refused}
+use Rattle.refusals.proofs.OutcomeLaws.{not-refused, same-answer, past}
 use Rattle.sender.specs.Send.{countOf, countFor, checkOf, leadOf, fragmentOf, mostOf, sendOf}
 use Rattle.sender.proofs.CountLaws.{count-one}
 
@@ -144,6 +144,15 @@ module _ (message : List ℕ) (field mask k : ℕ) where
   pub send-answer : Sendable message field mask → k < countOf (length message) field
       → sendOf message field mask k ≡ answer (fragmentOf message field mask k)
   send-answer s p = send-by s ∙ pick-false _ _ (lt-leb (countOf (length message) field) k p)
+
+-- what is handed out is fragment k, for a field that is accepted
+pub send-is : (message : List ℕ) (field mask k : ℕ) (v : List ℕ) → sendOf message field mask k ≡ answer v
+    → (fragmentOf message field mask k ≡ v) × (fieldOk field ≡ true)
+unfolding sendOf
+send-is message field mask k v e =
+    let field-is = past _ _ _ _ e in
+    let rest = past _ _ _ _ (past _ _ _ _ (past _ _ _ _ (past _ _ _ _ (past _ _ _ _ (past _ _ _ _ (field-is .1) .1) .1) .1) .1) .1) in
+    (same-answer (rest .1), not-false (fieldOk field) (field-is .0))
 
 -- what is accepted for the first fragment is accepted for all of them
 pub send-accepted : (message : List ℕ) (field mask : ℕ) → accepted (sendOf message field mask 0) ≡ true → Sendable message field mask
