@@ -55,6 +55,12 @@ pub fn text_frame(r: &mut Random, length: usize) -> Vec<u8> {
     frame
 }
 
+/// A frame without digipeaters, polled: control 13.
+pub fn polled(mut frame: Vec<u8>) -> Vec<u8> {
+    frame[14] |= 0x10;
+    frame
+}
+
 /// A frame of any bytes, coded as Binary.
 pub fn binary_frame(r: &mut Random, length: usize) -> Vec<u8> {
     let mut frame = header();

@@ -1,11 +1,12 @@
 //! The rows: each call of the source beside the exported one, on the same input. Outputs of ours are made once, as a
 //! gateway holds them; the source makes its own.
 
-use crate::inputs::{Random, binary_frame, message, position_frame, text_frame};
+use crate::inputs::{Random, binary_frame, message, polled, position_frame, text_frame};
 use crate::table::{Table, same};
 use crate::xara::{self, Heard, Receiver};
 use std::hint::black_box;
 use std::rc::Rc;
+use xara_arq::ax25;
 use xara_arq::kiss::{self, Command, HF_CRC_MASK, Push, Reassembler};
 use xara_phy::crc::crc16_genibus;
 use xara_phy::hf::frame::{Control, build_frame};
@@ -18,11 +19,12 @@ const MOST_DECODED: usize = 45_764;
 /// The receiver's store.
 const STORE: usize = 5000;
 /// Text and generic 7 bit of 4,999 bytes; the position report; crc, fragments, frame and push; fragments and push under a
-/// mask of another number of check bits.
+/// mask of another number of check bits; the summary.
 const TEXT_BAR: f64 = 5.0;
 const POSITION_BAR: f64 = 2.0;
 const OTHER_BAR: f64 = 3.0;
 const MASK_BAR: f64 = 1.0;
+const SUMMARY_BAR: f64 = 1.0;
 
 const MARKER: u8 = 0x01;
 const CONTROL: Control = Control { reply: 1, compressed: false, hint: 2 };
@@ -81,6 +83,33 @@ fn decoding(table: &mut Table, kind: &str, bytes: usize, message: Rc<[u8]>, bar:
     let theirs = Rc::clone(&message);
     let source = move || kiss::decode(black_box(&theirs));
     table.add(&name, bytes, bar, source, move || xara::decode(black_box(&message), black_box(&mut out)));
+}
+
+/// What a frame is: Text and Binary, a polled Text, and a position report with a digipeater. The source's `parse` finds as much,
+/// and the calls too.
+pub fn summaries(table: &mut Table) {
+    let mut r = Random::new();
+    for bytes in SIZES {
+        summary(table, "text", text_frame(&mut r, bytes));
+        summary(table, "polled text", polled(text_frame(&mut r, bytes)));
+        summary(table, "binary", binary_frame(&mut r, bytes));
+    }
+    summary(table, "position", position_frame());
+}
+
+fn summary(table: &mut Table, kind: &str, data: Vec<u8>) {
+    let (name, bytes) = (format!("summary {kind}"), data.len());
+    if !table.wants(&name, bytes) {
+        return;
+    }
+    let record = ax25::parse(&data, Command::Ax25).expect("the input is a frame");
+    let (aprs_type, digis, ui) = xara::summary(Command::Ax25.byte(), &data).told().expect("the input is a frame");
+    let expected = [record.aprs_type.code(), record.digis.len() as u8, u8::from(matches!(record.ctrl, 0x03 | 0x13))];
+    same(&name, &expected, &[aprs_type, digis as u8, u8::from(ui)]);
+    let data: Rc<[u8]> = data.into();
+    let theirs = Rc::clone(&data);
+    let source = move || ax25::parse(black_box(&theirs), Command::Ax25);
+    table.add(&name, bytes, Some(SUMMARY_BAR), source, move || xara::summary(Command::Ax25.byte(), black_box(&data)));
 }
 
 pub fn crc(table: &mut Table) {

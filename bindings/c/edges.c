@@ -1,7 +1,7 @@
 /*
  * Every output length from 0 to one more than the answer's, every refusal's number, frames and fragments of every length, texts
- * with white space and the bytes beside it at their edges, every mask with its longest messages and its worked examples, the
- * lengths of fragments, and receiver states that no call leads to. Every field of every answer is looked at, flags as the bytes
+ * with white space and the bytes beside it at their edges, every control byte of a frame, every mask with its longest messages and
+ * its worked examples, the lengths of fragments, and receiver states that no call leads to. Every field of every answer is looked at, flags as the bytes
  * that they are, and every input for being unchanged. Every buffer has its exact length on the heap, so that valgrind sees a byte
  * read or written beside it. Prints how many calls were held against what is to be expected; the exit status is 1 where one
  * differs.
@@ -310,6 +310,53 @@ static void short_frames(void)
         expect(untouched(frame, n), "short frame's bytes", n);
         free(frame);
     }
+    free(out);
+}
+
+/* CQ from K1A with this control byte, PID and A, under a command with calls of six letters or of seven. The frame's length. */
+static size_t with_control(uint8_t command, uint8_t control, uint8_t pid, uint8_t *frame)
+{
+    size_t letters = command == XARA_AX25_LONG ? 7 : 6, n = 0;
+    for (size_t call = 0; call < 2; call++) {
+        for (size_t i = 0; i < letters; i++)
+            frame[n++] = (uint8_t)((i < 3 ? (call == 0 ? "CQ " : "K1A")[i] : ' ') << 1);
+        frame[n++] = (uint8_t)(0x60 | call);
+    }
+    frame[n++] = control;
+    frame[n++] = pid;
+    frame[n++] = 'A';
+    return n;
+}
+
+/* UI is control 03 or 13, 000P0011, whatever the PID is; generic bytes are never UI. */
+static void every_control(void)
+{
+    static const uint8_t pids[] = {0xF0, 0x00, 0x03, 0x13, 0xCF};
+    for (unsigned control = 0; control < 256; control++) {
+        for (size_t p = 0; p < sizeof pids; p++) {
+            for (unsigned command = 0; command < 3; command++) {
+                uint8_t frame[19];
+                size_t n = with_control((uint8_t)command, (uint8_t)control, pids[p], frame);
+                uint8_t ui = command != XARA_GENERIC && (control == 0x03 || control == 0x13), *lent = copied(frame, n);
+                expect(summed_up(xara_summary((uint8_t)command, lent, n), 0, XARA_TEXT, ui, 0), "control", control);
+                expect(memcmp(lent, frame, n) == 0, "data with this control", control);
+                free(lent);
+            }
+        }
+    }
+}
+
+/* The coder treats only 03 with PID F0 as the short header: 13 and F0 are coded in the body, as letters of seven bits. */
+static void polled_frame(void)
+{
+    static const uint8_t coded[] = {0x00, 0xAC, 0xB7, 0x01, 0x00, 0x04, 0xF8, 0x41, 0x00};
+    uint8_t frame[19], *out = filled(sizeof frame);
+    size_t n = with_control(XARA_AX25, 0x13, 0xF0, frame);
+    expect(encoded(xara_encode(XARA_AX25, frame, n, out, n), 0, XARA_TEXT, sizeof coded), "polled frame", 0);
+    expect(written(out, sizeof frame, coded, sizeof coded), "polled frame's message", 0);
+    expect(decoded(xara_decode(coded, sizeof coded, out, sizeof frame), 0, XARA_AX25, n), "polled frame back", 0);
+    with_control(XARA_AX25, 0x13, 0x70, frame);
+    expect(written(out, sizeof frame, frame, n), "polled frame's bytes back", 0);
     free(out);
 }
 
@@ -879,6 +926,8 @@ int main(void)
     coding_rooms();
     longest_rooms();
     short_frames();
+    every_control();
+    polled_frame();
     crc_lengths();
     nothing();
     command_refusals();

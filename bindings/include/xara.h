@@ -196,7 +196,7 @@ typedef struct XaraSummary {
     bool ok;           /* 1 where it answers, 0 where it refuses */
     uint8_t refusal;   /* enum xara_refusal; 0 where ok */
     uint8_t aprs_type; /* enum xara_aprs_type; 0 where not ok */
-    bool ui;           /* 1 where control is 03, else 0; 0 where not ok */
+    bool ui;           /* 1 where control is 03 or 13, else 0; 0 where not ok */
     size_t digis;      /* digipeaters, to 8; 0 where not ok */
 } XaraSummary;
 
@@ -264,7 +264,8 @@ XaraReceiver xara_receiver_reset(XaraReceiver receiver);
 XaraEncoded xara_encode(uint8_t command, const uint8_t *data, size_t data_len, uint8_t *out, size_t out_len);
 
 /*
- * What a frame is, before it is coded; of generic bytes text, no UI frame, 0 digipeaters.
+ * What a frame is, before it is coded; of generic bytes text, no UI frame, 0 digipeaters. UI is control 000P0011, 03 or 13,
+ * whatever the PID is; the coder has its short header for control 03 with PID F0 alone.
  * Refuses with COMMAND, TOO_LONG, SHORT, in this order.
  */
 XaraSummary xara_summary(uint8_t command, const uint8_t *data, size_t data_len);

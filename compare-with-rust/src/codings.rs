@@ -11,9 +11,14 @@ use answers::{MAX_MESSAGE, cases, frames, messages, white};
 /// The most bytes that a message decodes to.
 pub const MOST_DECODED: usize = 45_764;
 
-/// Some data to code: one in eight with white space, or a neighbour of it, at the edges of its texts.
+/// Some data to code: one in eight with white space, or a neighbour of it, at the edges of its texts, and one in eight a frame
+/// whose control is 03, 13 or a neighbour of these.
 pub fn data(r: &mut Random) -> (u8, Vec<u8>) {
-    if r.below(8) == 0 { white::data(r) } else { frames::data(r) }
+    match r.below(8) {
+        0 => white::data(r),
+        1 => frames::near_ui(r),
+        _ => frames::data(r),
+    }
 }
 
 /// Some data, coded, and its summary.
@@ -22,9 +27,9 @@ pub fn coding(r: &mut Random, tally: &mut Tally) {
     both(command, &data, r, tally);
 }
 
-/// The data that is written down: every type, every refusal, and every byte at the edges of every text.
+/// The data that is written down: every type, every refusal, every control byte, and every byte at the edges of every text.
 pub fn written_down(r: &mut Random, tally: &mut Tally) {
-    for (command, data) in cases::all(r).into_iter().chain(white::all()) {
+    for (command, data) in cases::all(r).into_iter().chain(cases::every_control()).chain(white::all()) {
         both(command, &data, r, tally);
     }
 }

@@ -39,7 +39,7 @@ impl Encoded {
 }
 
 impl Summary {
-    /// Of the type, the number of digipeaters, and whether control is 03.
+    /// Of the type, the number of digipeaters, and whether control is 03 or 13.
     pub fn of(expected: Result<(u8, usize, bool), u8>) -> Self {
         let (ok, refusal) = flags(&expected);
         let (aprs_type, digis, ui) = expected.unwrap_or_default();

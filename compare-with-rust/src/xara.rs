@@ -226,6 +226,13 @@ impl Encoded {
     }
 }
 
+impl Summary {
+    /// The type, the number of digipeaters, and whether control is 03 or 13.
+    pub fn told(self) -> Result<(u8, usize, bool), u8> {
+        told(self.ok, self.refusal, (self.aprs_type, self.digis, self.ui != 0))
+    }
+}
+
 impl Decoded {
     /// The data's length and the command.
     pub fn told(self) -> Result<(usize, u8), u8> {

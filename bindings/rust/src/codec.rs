@@ -66,7 +66,7 @@ pub fn decode<'a>(message: &[u8], out: &'a mut [u8]) -> Result<(Command, &'a [u8
 pub struct Summary {
     /// The type of its information.
     pub aprs_type: AprsType,
-    /// Whether control is 03.
+    /// Whether control is that of a UI frame, 000P0011: 03, or 13 where it is polled. The PID is not looked at.
     pub ui: bool,
     /// How many digipeaters it names, up to 8.
     pub digis: usize,
@@ -82,6 +82,12 @@ pub struct Summary {
 /// let frame = [0x86, 0xA2, 0x40, 0x40, 0x40, 0x40, 0x60, 0x96, 0x62, 0x82, 0x40, 0x40, 0x40, 0x61, 0x03, 0xF0, 0x41];
 /// let summary = xara::summary(Command::Ax25, &frame)?;
 /// assert_eq!(summary, Summary { aprs_type: AprsType::Text, ui: true, digis: 0 });
+///
+/// let mut polled = frame;
+/// polled[14] = 0x13;
+/// assert!(xara::summary(Command::Ax25, &polled)?.ui);
+/// polled[14] = 0x93;
+/// assert!(!xara::summary(Command::Ax25, &polled)?.ui);
 /// # Ok::<(), xara::Refusal>(())
 /// ```
 pub fn summary(command: Command, data: &[u8]) -> Result<Summary, Refusal> {

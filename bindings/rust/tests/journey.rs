@@ -176,10 +176,10 @@ fn a_receiver_is_cloned_with_what_it_holds() {
     assert_eq!(receiver.join(&[0x40, 3], 2).map(Heard::done), Ok(Some(&[0x40, 3][..])));
 }
 
-/// A frame of K1A, to a destination, with a control byte and this information.
-fn frame(dest: &[u8; 6], control: u8, information: &[u8]) -> Vec<u8> {
+/// The address fields of K1A and a destination, then what a frame ends with.
+fn frame(dest: &[u8; 6], end: &[u8]) -> Vec<u8> {
     let address = |call: &[u8; 6], low: u8| call.iter().map(|c| c << 1).chain([low]).collect::<Vec<u8>>();
-    [&address(dest, 0x60)[..], &address(b"K1A   ", 0x61), &[control, 0xF0], information].concat()
+    [&address(dest, 0x60)[..], &address(b"K1A   ", 0x61), end].concat()
 }
 
 #[test]
@@ -197,16 +197,38 @@ fn every_type() {
     for (aprs_type, code, information) in all {
         assert_eq!((aprs_type.code(), AprsType::from_code(code)), (code, Some(aprs_type)));
         assert_eq!(aprs_type.has_position(), code == 2 || code == 3);
-        for control in [0x03, 0x13] {
-            let data = frame(b"APRS  ", control, information);
-            let summary = Summary { aprs_type, ui: control == 0x03, digis: 0 };
+        for (control, ui) in [(0x03, true), (0x13, true), (0x93, false)] {
+            let data = frame(b"APRS  ", &[&[control, 0xF0], information].concat());
+            let summary = Summary { aprs_type, ui, digis: 0 };
             assert_eq!(xara::summary(Command::Ax25, &data), Ok(summary));
             assert_eq!(encoder.encode(Command::Ax25, &data).map(|message| message.aprs_type), Ok(aprs_type));
         }
     }
     assert_eq!([5, 7, 255].map(AprsType::from_code), [None; 3]);
     let generic = Summary { aprs_type: AprsType::Text, ui: false, digis: 0 };
-    assert_eq!(xara::summary(Command::Generic, &frame(b"APRS  ", 0x03, third)), Ok(generic));
+    assert_eq!(xara::summary(Command::Generic, &frame(b"APRS  ", &[&[0x03, 0xF0][..], third].concat())), Ok(generic));
+}
+
+/// UI is control 03 or 13, whatever the PID is; the coder goes on treating only 03 with PID F0 as the short header.
+#[test]
+fn polled_frames() {
+    let all: [(&[u8], bool); 7] = [
+        (b"\x03\xF0A", true),
+        (b"\x13\xF0A", true),
+        (b"\x0F\xF0A", false),
+        (b"\x23\xF0A", false),
+        (b"\x93\xF0A", false),
+        (b"\x83\xF0A", false),
+        (b"\x13\x00", true),
+    ];
+    for (end, ui) in all {
+        let summary = Summary { aprs_type: AprsType::Text, ui, digis: 0 };
+        assert_eq!(xara::summary(Command::Ax25, &frame(b"CQ    ", end)), Ok(summary), "{end:02X?}");
+    }
+    let mut encoder = Encoder::new();
+    let message = encoder.encode(Command::Ax25, &frame(b"CQ    ", b"\x13\xF0A")).expect("it is coded");
+    assert_eq!(&message[..], [0x00, 0xAC, 0xB7, 0x01, 0x00, 0x04, 0xF8, 0x41, 0x00]);
+    assert_eq!(Decoder::new().decode(&message), Ok((Command::Ax25, &frame(b"CQ    ", b"\x13\x70A")[..])));
 }
 
 /// A long frame has calls of seven letters, and comes back as one.

@@ -1,8 +1,8 @@
--- Document 01's edges marked P, masks of 1 to 7 check bits (02, E11) and the lengths of fragments (02, E1): three tables that hold of the
--- definitions as a whole.
+-- Document 01's edges marked P, masks of 1 to 7 check bits (02, E11), the lengths of fragments (02, E1) and polled frames (02, E4): four
+-- tables that hold of the definitions as a whole.
 -- Assumes nothing.
 use mathlib.Core.Path.{_≡_, refl}
-use mathlib.Core.Bool.{Bool, true, false, _&&_, not}
+use mathlib.Core.Bool.{Bool, true, false, _&&_}
 use mathlib.Core.List.{List, [], _∷_, map}
 use mathlib.Core.Option.{Option, none, some}
 use Prim.Native.Nat.{ℕ, zero, suc, _+_, _%_}
@@ -13,6 +13,7 @@ use lib.Dec.{leb, eqb}
 use Rattle.laws.specs.Bits.{odd, num, bitsOf, valueOf, fit, packN, pack, unpack}
 use Rattle.laws.specs.Pick.{pick}
 use Rattle.laws.specs.Text.{ascii, same, between, upper, isOneOf, starts, later, position, trimFront, keepOr, trimEnd, trim}
+use Rattle.laws.proofs.Cases.{alike}
 use Rattle.laws.proofs.TextLaws.{below}
 use Rattle.crc.specs.Crc.{crcBit, crcSteps, crcByte, crcFrom, crcOf, crcBits}
 use Rattle.bits.specs.Read.{letter, takeBits, takeText}
@@ -25,18 +26,20 @@ use Rattle.refusals.specs.Outcome.{Outcome, refused, answer, accepted}
 use Rattle.sender.specs.Send.{countFor, sendOf, ceiling, countOf, checkOf, leadOf, fragmentOf, mostOf}
 use Rattle.ax25_token.specs.Tables.{callAlphabet, long, symOf, alphaOf, wideTokens, wideRow, pairRows, pairTexts, fixedRows, numberedRows}
 use Rattle.ax25_token.specs.Token.{tokenBits, readToken, hyphened, baseOf, behind, numberAt, twoDigits, decimal, suffix, pairBits, pairsBits, fixedBits, takes, numberedBits, spell, ending, plainAp, apBits, spelledBits, orElse, after, pairForm, fixedForm, numberedForm, symbolForm, formOf, wideNumber, readPair, readNumber, letterOf, goOn, readLetters, readSpelled, readForm}
-use Rattle.ax25_address.specs.Types.{Ax25, Generic}
+use Rattle.ax25_address.specs.Types.{Ax25, Ax25Long, Generic, Text, Binary}
 use Rattle.ax25_address.specs.Address.{white, half, addrCall, double, cutTo, ssidOf, callBytes}
 use Rattle.ax25_address.specs.Classify.{anyHigh, classifyOf}
 use Rattle.ax25_address.specs.Parse.{splitOff, digiFields, parseOf, typeOf}
 use Rattle.ax25.specs.Encode.{Coded, headerOf, bodyBytes, tokensBits, digiBits, headBits, infoBits, frameBits, codeParsed, encodeOf}
 use Rattle.ax25.specs.Decode.{marked, readTokens, readDigis, readHead, readInfo, addresses, readFrame}
 use Rattle.kiss.specs.Generic.{genericOf, genericBack}
-use Rattle.kiss.specs.Codec.{codeOf, Decoded, decodeOf, decodeMessage, decodeSome}
+use Rattle.kiss.specs.Codec.{codeOf, Summary, summaryOf, Decoded, decodeOf, decodeMessage, decodeSome}
 
 pub data Edge : Type 0 where
   codes : ℕ → List ℕ → List ℕ → Edge  -- command and data, the message
   decodes : List ℕ → ℕ → List ℕ → Edge  -- a message, command and data
+  sums : ℕ → List ℕ → ℕ → ℕ → Bool → Edge  -- command and data, the summary: type, digipeaters and UI
+  no-sum : ℕ → List ℕ → ℕ → Edge  -- command and data, the number that the summary is refused with
   counts : ℕ → ℕ → ℕ → Edge  -- field and bytes, the count
   refuses : List ℕ → ℕ → ℕ → ℕ → ℕ → Edge  -- a message, field, mask and k, the number that it is refused with
   longest : ℕ → ℕ → Edge  -- a mask, the bytes of the longest message at field 3: so many are sent, and one more is refused with 12
@@ -46,9 +49,24 @@ pub data Edge : Type 0 where
   token : String → String → Edge  -- a call, its bits
   reads : String → String → Edge  -- bits, the call
 
+-- a frame of CQ from K1A with this control byte, PID and information
+with-end : List ℕ → List ℕ
+with-end e = 0x86 ∷ 0xA2 ∷ 0x40 ∷ 0x40 ∷ 0x40 ∷ 0x40 ∷ 0x60 ∷ 0x96 ∷ 0x62 ∷ 0x82 ∷ 0x40 ∷ 0x40 ∷ 0x40 ∷ 0x61 ∷ e
+
+-- the same with calls of seven letters
+with-long-end : List ℕ → List ℕ
+with-long-end e =
+    0x86 ∷ 0xA2 ∷ 0x40 ∷ 0x40 ∷ 0x40 ∷ 0x40 ∷ 0x40 ∷ 0x60 ∷ 0x96 ∷ 0x62 ∷ 0x82 ∷ 0x40 ∷ 0x40 ∷ 0x40 ∷ 0x40 ∷ 0x61 ∷ e
+
+-- the same with the digipeater WIDE1-1
+with-digi-end : List ℕ → List ℕ
+with-digi-end e =
+    0x86 ∷ 0xA2 ∷ 0x40 ∷ 0x40 ∷ 0x40 ∷ 0x40 ∷ 0x60 ∷ 0x96 ∷ 0x62 ∷ 0x82 ∷ 0x40 ∷ 0x40 ∷ 0x40 ∷ 0x60
+    ∷ 0xAE ∷ 0x92 ∷ 0x88 ∷ 0x8A ∷ 0x62 ∷ 0x40 ∷ 0x63 ∷ e
+
 -- the seventeen-byte frame, and its message
 frame : List ℕ
-frame = 0x86 ∷ 0xA2 ∷ 0x40 ∷ 0x40 ∷ 0x40 ∷ 0x40 ∷ 0x60 ∷ 0x96 ∷ 0x62 ∷ 0x82 ∷ 0x40 ∷ 0x40 ∷ 0x40 ∷ 0x61 ∷ 0x03 ∷ 0xF0 ∷ 0x41 ∷ []
+frame = with-end (0x03 ∷ 0xF0 ∷ 0x41 ∷ [])
 
 message : List ℕ
 message = 0x40 ∷ 0xAC ∷ 0xB7 ∷ 0x01 ∷ 0x00 ∷ 0x10 ∷ 0x40 ∷ []
@@ -178,6 +196,35 @@ booked =
     ∷ lengths (with-zeros 4) 3 0xF0 (3 ∷ 3 ∷ 2 ∷ [])
     ∷ []
 
+-- "UI in the summary now means control 03 or 13. The coder goes on treating only 03 with PID F0 as the short header": a frame with 13 F0 is
+-- coded with both bytes in its body, as letters of seven bits
+pub polled : List Edge
+polled =
+    sums Ax25 (with-end (0x03 ∷ 0xF0 ∷ 0x41 ∷ [])) Text 0 true
+    ∷ sums Ax25 (with-end (0x13 ∷ 0xF0 ∷ 0x41 ∷ [])) Text 0 true
+    ∷ sums Ax25 (with-end (0x0F ∷ 0xF0 ∷ 0x41 ∷ [])) Text 0 false
+    ∷ sums Ax25 (with-end (0x23 ∷ 0xF0 ∷ 0x41 ∷ [])) Text 0 false
+    ∷ sums Ax25 (with-end (0x93 ∷ 0xF0 ∷ 0x41 ∷ [])) Text 0 false
+    ∷ sums Ax25 (with-end (0x83 ∷ 0xF0 ∷ 0x41 ∷ [])) Text 0 false
+    ∷ sums Ax25 (with-end (0x13 ∷ 0x00 ∷ [])) Text 0 true
+    ∷ sums Ax25Long (with-long-end (0x03 ∷ 0xF0 ∷ 0x41 ∷ [])) Text 0 true
+    ∷ sums Ax25Long (with-long-end (0x13 ∷ 0xF0 ∷ 0x41 ∷ [])) Text 0 true
+    ∷ sums Ax25Long (with-long-end (0x93 ∷ 0xF0 ∷ 0x41 ∷ [])) Text 0 false
+    ∷ sums Ax25 (with-digi-end (0x13 ∷ 0xF0 ∷ 0x41 ∷ [])) Text 1 true
+    ∷ sums Ax25 (with-digi-end (0x93 ∷ 0xF0 ∷ 0x41 ∷ [])) Text 1 false
+    ∷ sums Ax25 (with-end (0x13 ∷ 0xF0 ∷ 0x80 ∷ [])) Binary 0 true
+    ∷ sums Generic (with-end (0x13 ∷ 0xF0 ∷ 0x41 ∷ [])) Text 0 false
+    ∷ sums Generic [] Text 0 false
+    ∷ no-sum 3 (with-end (0x13 ∷ 0xF0 ∷ 0x41 ∷ [])) 1
+    ∷ no-sum 3 (replicate 5000 0x13) 1
+    ∷ no-sum Ax25 (replicate 5000 0x13) 2
+    ∷ no-sum Generic (replicate 5000 0x13) 2
+    ∷ no-sum Ax25 (with-end (0x13 ∷ [])) 3
+    ∷ no-sum Ax25Long (with-end (0x13 ∷ 0xF0 ∷ 0x41 ∷ [])) 3
+    ∷ codes Ax25 (with-end (0x13 ∷ 0xF0 ∷ 0x41 ∷ [])) (0x00 ∷ 0xAC ∷ 0xB7 ∷ 0x01 ∷ 0x00 ∷ 0x04 ∷ 0xF8 ∷ 0x41 ∷ 0x00 ∷ [])
+    ∷ decodes (0x00 ∷ 0xAC ∷ 0xB7 ∷ 0x01 ∷ 0x00 ∷ 0x04 ∷ 0xF8 ∷ 0x41 ∷ 0x00 ∷ []) Ax25 (with-end (0x13 ∷ 0x70 ∷ 0x41 ∷ []))
+    ∷ []
+
 -- ---- tests of answers
 
 givesMessage : Outcome Coded → List ℕ → Bool
@@ -188,11 +235,15 @@ givesData : Outcome Decoded → ℕ → List ℕ → Bool
 givesData (refused n) command d = false
 givesData (answer r) command d = eqb (r .command) command && same (r .bytes) d
 
+givesSummary : Outcome Summary → ℕ → ℕ → Bool → Bool
+givesSummary (refused n) typ digis ui = false
+givesSummary (answer s) typ digis ui = eqb (s .typ) typ && (eqb (s .digis) digis && alike (s .ui) ui)
+
 givesCount : Outcome ℕ → ℕ → Bool
 givesCount (refused n) count = false
 givesCount (answer k) count = eqb k count
 
-isRefused : Outcome (List ℕ) → ℕ → Bool
+isRefused : {A : Type 0} → Outcome A → ℕ → Bool
 isRefused (refused n) k = eqb n k
 isRefused (answer b) k = false
 
@@ -218,13 +269,11 @@ givesCall none c = false
 givesCall (some (t, [])) c = same t c
 givesCall (some (t, x ∷ b)) c = false
 
-alike : Bool → Bool → Bool
-alike true b = b
-alike false b = not b
-
 pub holds : Edge → Bool
 holds (codes command d m) = givesMessage (codeOf command d) m
 holds (decodes m command d) = givesData (decodeOf m) command d
+holds (sums command d typ digis ui) = givesSummary (summaryOf command d) typ digis ui
+holds (no-sum command d n) = isRefused (summaryOf command d) n
 holds (counts field bytes count) = givesCount (countFor bytes field) count
 holds (refuses m field mask k n) = isRefused (sendOf m field mask k) n
 holds (longest mask n) = accepted (sendOf (from 1 n) 3 mask 0) && isRefused (sendOf (from 1 (suc n)) 3 mask 0) 12
@@ -239,7 +288,7 @@ all [] = true
 all (e ∷ es) = holds e && all es
 
 pub table-holds : all table ≡ true
-unfolding topOf frame message from table alike below givesMessage givesData givesCount isRefused givesFragment givesBits givesCall holds all odd num bitsOf valueOf fit packN pack unpack pick between upper same isOneOf starts later position trimFront keepOr trimEnd trim crcBit crcSteps crcByte crcFrom crcOf crcBits takeBits takeText sevens numbers lastOr text7Bits differ counted endOf text7Of stops nextVal valFrom valOf ceiling countOf countFor checkOf leadOf fragmentOf mostOf sendOf callAlphabet long symOf alphaOf wideTokens wideRow pairRows pairTexts fixedRows numberedRows hyphened baseOf behind numberAt twoDigits decimal suffix pairBits pairsBits fixedBits takes numberedBits spell ending plainAp apBits spelledBits orElse tokenBits after pairForm fixedForm numberedForm symbolForm formOf wideNumber readPair readNumber letterOf goOn readLetters readSpelled readForm readToken white half addrCall double cutTo ssidOf callBytes anyHigh classifyOf splitOff digiFields parseOf typeOf headerOf bodyBytes tokensBits digiBits headBits infoBits frameBits codeParsed encodeOf marked readTokens readDigis readHead readInfo addresses readFrame genericOf genericBack codeOf decodeMessage decodeSome decodeOf
+unfolding topOf with-end frame message from table alike below givesMessage givesData givesCount isRefused givesFragment givesBits givesCall holds all odd num bitsOf valueOf fit packN pack unpack pick between upper same isOneOf starts later position trimFront keepOr trimEnd trim crcBit crcSteps crcByte crcFrom crcOf crcBits takeBits takeText sevens numbers lastOr text7Bits differ counted endOf text7Of stops nextVal valFrom valOf ceiling countOf countFor checkOf leadOf fragmentOf mostOf sendOf callAlphabet long symOf alphaOf wideTokens wideRow pairRows pairTexts fixedRows numberedRows hyphened baseOf behind numberAt twoDigits decimal suffix pairBits pairsBits fixedBits takes numberedBits spell ending plainAp apBits spelledBits orElse tokenBits after pairForm fixedForm numberedForm symbolForm formOf wideNumber readPair readNumber letterOf goOn readLetters readSpelled readForm readToken white half addrCall double cutTo ssidOf callBytes anyHigh classifyOf splitOff digiFields parseOf typeOf headerOf bodyBytes tokensBits digiBits headBits infoBits frameBits codeParsed encodeOf marked readTokens readDigis readHead readInfo addresses readFrame genericOf genericBack codeOf decodeMessage decodeSome decodeOf
 table-holds = refl
 
 pub masks-hold : all masks ≡ true
@@ -249,3 +298,7 @@ masks-hold = refl
 pub booked-holds : all booked ≡ true
 unfolding topOf with-zeros booked isRefused givesFragment givesLength givesLengths holds all odd num bitsOf valueOf pick same crcBit crcSteps crcByte crcFrom crcOf crcBits ceiling countOf checkOf leadOf fragmentOf mostOf sendOf
 booked-holds = refl
+
+pub polled-holds : all polled ≡ true
+unfolding with-end with-long-end with-digi-end polled givesSummary summaryOf isRefused alike givesMessage givesData holds all odd num bitsOf valueOf fit packN pack unpack pick between upper same isOneOf starts later position trimFront keepOr trimEnd trim takeBits takeText sevens numbers lastOr text7Bits differ counted endOf text7Of stops nextVal valFrom valOf callAlphabet long symOf alphaOf wideTokens wideRow pairRows pairTexts fixedRows numberedRows hyphened baseOf behind numberAt twoDigits decimal suffix pairBits pairsBits fixedBits takes numberedBits spell ending plainAp apBits spelledBits orElse tokenBits after pairForm fixedForm numberedForm symbolForm formOf wideNumber readPair readNumber letterOf goOn readLetters readSpelled readForm readToken white half addrCall double cutTo ssidOf callBytes anyHigh classifyOf splitOff digiFields parseOf typeOf headerOf bodyBytes tokensBits digiBits headBits infoBits frameBits codeParsed encodeOf marked readTokens readDigis readHead readInfo addresses readFrame codeOf decodeMessage decodeSome decodeOf
+polled-holds = refl

@@ -6,3 +6,4 @@ pub mod GenericBack
 pub mod GenericLaws
 pub mod SummaryLaws
 pub mod TellLaws
+pub mod UiLaws

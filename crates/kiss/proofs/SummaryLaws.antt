@@ -1,28 +1,27 @@
 -- The cases of a summary, by its tests and by what `parse` answers.
 -- Assumes nothing.
 use mathlib.Core.Path.{_≡_, sym, ap, _∙_}
-use mathlib.Core.Bool.{false}
+use mathlib.Core.Bool.{Bool, false}
 use mathlib.Core.List.{List}
 use mathlib.Core.Option.{Option, none, some, Option·none-ne-some, Option·some-injective}
 use Prim.Native.Nat.{ℕ, _≤_, _<_}
 use lib.ListN.{length}
-use lib.Dec.{eqb}
 use borrow.Author.Tests.{lt-ltb, le-ltb, eq-eqb, ne-eqb}
 use Rattle.laws.proofs.Cases.{pick-true, pick-false}
 use Rattle.refusals.specs.Outcome.{refused, answer}
 use Rattle.ax25_address.specs.Parse.{Parsed, parseOf}
 use Rattle.ax25_address.specs.Record.{Seen, seen, seenOf}
 use Rattle.ax25_address.specs.Types.{Text, callLen}
-use Rattle.kiss.specs.Codec.{Summary, summarised, summaryOf}
+use Rattle.kiss.specs.Codec.{uiControl, Summary, summarised, summaryOf}
 
--- what is told of a frame that `parse` has seen
-abbrev factsOf : Seen → Summary
-factsOf s = record { typ = s .typ; digis = s .digis; ui = eqb (s .ctrl) 0x03 }
+-- what is told of a frame that `parse` has seen, and whether it is UI
+abbrev factsOf : Seen → Bool → Summary
+factsOf s u = record { typ = s .typ; digis = s .digis; ui = u }
 
-found-facts : (command : ℕ) (o : Option Parsed) (s : Seen) → seenOf command o ≡ some s → summarised command o ≡ answer (factsOf s)
+found-facts : (command : ℕ) (o : Option Parsed) (s : Seen) → seenOf command o ≡ some s → summarised command o ≡ answer (factsOf s (uiControl (s .ctrl)))
 unfolding seenOf
 found-facts command none s e = absurd (Option·none-ne-some s e)
-found-facts command (some r) s e = ap (λ (x : Seen). answer (factsOf x)) (Option·some-injective (seen command r) s e)
+found-facts command (some r) s e = ap (λ (x : Seen). answer (factsOf x (uiControl (x .ctrl)))) (Option·some-injective (seen command r) s e)
 
 short-facts : (command : ℕ) (o : Option Parsed) → seenOf command o ≡ none → summarised command o ≡ refused 3
 unfolding seenOf
@@ -53,5 +52,7 @@ module _ (command : ℕ) (d : List ℕ) where
       pub of-short : seenOf command (parseOf (callLen command) d) ≡ none → refused 3 ≡ summaryOf command d
       of-short p = sym (of-frame ∙ short-facts command (parseOf (callLen command) d) p)
 
-      pub of-found : (s : Seen) → seenOf command (parseOf (callLen command) d) ≡ some s → answer (factsOf s) ≡ summaryOf command d
-      of-found s p = sym (of-frame ∙ found-facts command (parseOf (callLen command) d) s p)
+      pub of-found : (s : Seen) (u : Bool) → seenOf command (parseOf (callLen command) d) ≡ some s → u ≡ uiControl (s .ctrl)
+          → answer (factsOf s u) ≡ summaryOf command d
+      of-found s u p q =
+          ap (λ (v : Bool). answer (factsOf s v)) q ∙ sym (of-frame ∙ found-facts command (parseOf (callLen command) d) s p)

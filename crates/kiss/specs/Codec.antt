@@ -1,6 +1,6 @@
 -- The answers of `kiss::encode`, `kiss::summary` and `kiss::decode`, before a lent output is looked at.
 -- Assumes nothing.
-use mathlib.Core.Bool.{Bool, false}
+use mathlib.Core.Bool.{Bool, false, _||_}
 use mathlib.Core.List.{List, [], _∷_}
 use mathlib.Core.Option.{Option, none, some}
 use Prim.Native.Nat.{ℕ, _/_, _%_}
@@ -23,7 +23,11 @@ codeOf command d =
     (pick (eqb command Generic) (answer (record { bytes = genericOf d; typ = Text }))
     (encodeOf command d)))
 
--- "the summary: type, digipeater count, and 'UI' where control is 03 (of generic bytes: Text, 0, not UI)"
+-- "UI in the summary now means control 03 or 13" (02): 000P0011
+abbrev pub uiControl : ℕ → Bool
+uiControl c = eqb c 0x03 || eqb c 0x13
+
+-- "the summary: type, digipeater count, and 'UI' .. (of generic bytes: Text, 0, not UI)"
 pub record Summary : Type 0 where
   pub typ : ℕ
   pub digis : ℕ
@@ -31,7 +35,7 @@ pub record Summary : Type 0 where
 
 abbrev pub summarised : ℕ → Option Parsed → Outcome Summary
 summarised command none = refused 3
-summarised command (some r) = answer (record { typ = typeOf command r; digis = length (r .digis); ui = eqb (r .control) 0x03 })
+summarised command (some r) = answer (record { typ = typeOf command r; digis = length (r .digis); ui = uiControl (r .control) })
 
 -- "Summary 1, 2, 3."
 unfoldable pub summaryOf : ℕ → List ℕ → Outcome Summary

@@ -32,7 +32,7 @@ encodedOf (Bytes n typ) = answer (n, typeNumber typ)
 abbrev pub codeInto : Outcome Coded → List ℕ → Outcome (ℕ × ℕ) × List ℕ
 codeInto o out = intoWith (λ c. c .bytes) (λ c. c .typ) o out
 
--- `summary`: the type, how many digipeaters, and whether control is 03
+-- `summary`: the type, how many digipeaters, and whether control is 03 or 13
 abbrev pub summarisedOf : Summarised → Outcome Summary
 summarisedOf (summarised.Refused n) = refused n
 summarisedOf (summarised.Is s) = answer (record { typ = typeNumber (s .«aprs_type»); digis = s .digis; ui = s .ui })

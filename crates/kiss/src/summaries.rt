@@ -1,6 +1,6 @@
 // What data is, before it is coded.
 ghost use mathlib.Core.Path.{_≡_};
-ghost use Rattle.kiss.specs.Codec.{summaryOf};
+ghost use Rattle.kiss.specs.Codec.{uiControl, summaryOf};
 ghost use Rattle.kiss.specs.Told.{summarisedOf};
 use ax25_address::classify::AprsType;
 use ax25_address::record::Parsed;
@@ -9,6 +9,9 @@ use refusals::COMMAND;
 use refusals::MAX_DATA;
 use refusals::SHORT;
 use refusals::TOO_LONG;
+
+// Control of a UI frame that is polled: P is set.
+const UI_POLL_CTRL: u8 = 0x13;
 
 // What a frame is, before it is coded.
 pub struct Facts {
@@ -23,7 +26,17 @@ pub enum Summarised {
     Is(Facts),
 }
 
-// The type, how many digipeaters, and whether control is 03. Of generic bytes: Text, 0, false.
+// Control is that of a UI frame, polled or not.
+fn ui_control(ctrl: u8) -> bool
+    ensures { λ r. ⌜ r ≡ uiControl ctrl ⌝ }
+{
+    if ctrl == UI_CTRL {
+        return true;
+    }
+    ctrl == UI_POLL_CTRL
+}
+
+// The type, how many digipeaters, and whether control is 03 or 13. Of generic bytes: Text, 0, false.
 pub fn summary(command: u8, data: &[u8]) -> Summarised
     ensures { λ r. ⌜ summarisedOf r ≡ summaryOf command (now («data» .entry)) ⌝ }
 {
@@ -45,9 +58,10 @@ pub fn summary(command: u8, data: &[u8]) -> Summarised
     };
     let aprs_type = found.aprs_type;
     let digis = found.digis;
+    let ui = ui_control(found.ctrl);
     Summarised::Is(Facts {
         aprs_type,
         digis,
-        ui: found.ctrl == UI_CTRL,
+        ui,
     })
 }

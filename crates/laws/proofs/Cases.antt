@@ -1,11 +1,11 @@
 -- A test goes one way or the other.
 -- Assumes nothing.
 use mathlib.Core.Path.{_≡_, refl, sym, _∙_}
-use mathlib.Core.Bool.{Bool, true, false, _&&_, _||_}
+use mathlib.Core.Bool.{Bool, true, false, _&&_, _||_, not}
 use mathlib.Core.Option.{Option, none, some, Option·none-ne-some}
 use Prim.Native.Nat.{ℕ, _≤_, _<_}
 use lib.Dec.{leb, eqb}
-use borrow.Author.Tests.{leb-true, leb-false, eqb-true, eqb-false}
+use borrow.Author.Tests.{leb-true, leb-false, eqb-true, eqb-false, not-true}
 use Rattle.laws.specs.Pick.{pick, _>>=_}
 
 module _ {ℓ} {X : Type ℓ} where
@@ -54,3 +54,14 @@ or-back false b e f = sym f ∙ e
 pub from-some : {A B : Type 0} {P : Type 0} (o : Option A) (f : A → Option B) (b : B) → (o >>= f) ≡ some b → ((a : A) → o ≡ some a → f a ≡ some b → P) → P
 from-some none f b e k = absurd (Option·none-ne-some b e)
 from-some (some a) f b e k = k a refl e
+
+-- ---- two tests that go the same way
+
+unfoldable pub alike : Bool → Bool → Bool
+alike true b = b
+alike false b = not b
+
+pub alike-eq : (a b : Bool) → alike a b ≡ true → a ≡ b
+unfolding alike
+alike-eq true b e = sym e
+alike-eq false b e = sym (not-true b e)

@@ -77,7 +77,7 @@ toEncoded (answer p) = record { ok = true; refusal = 0; «aprs_type» = p .1; le
 abbrev pub toEncodedWith : Outcome (ℕ × ℕ) × List ℕ → XaraEncoded × List ℕ
 toEncodedWith p = (toEncoded (p .0), p .1)
 
--- the type, how many digipeaters, and whether control is 03, or a refusal's number
+-- the type, how many digipeaters, and whether control is 03 or 13, or a refusal's number
 abbrev pub toSummary : Outcome Summary → XaraSummary
 toSummary (refused n) = record { ok = false; refusal = n; «aprs_type» = 0; ui = false; digis = 0 }
 toSummary (answer s) = record { ok = true; refusal = 0; «aprs_type» = s .typ; ui = s .ui; digis = s .digis }

@@ -77,7 +77,7 @@ pub struct XaraEncoded {
     pub length: usize,
 }
 
-// ok with a frame's type, whether control is 03 and how many digipeaters, or a refusal's number.
+// ok with a frame's type, whether control is 03 or 13 and how many digipeaters, or a refusal's number.
 #[repr(C)]
 pub struct XaraSummary {
     pub ok: bool,

@@ -242,6 +242,32 @@ fn controls() -> Vec<Data> {
     all
 }
 
+/// The worked examples of 02's request E4 on polled frames, under both commands.
+pub fn polled() -> Vec<Data> {
+    let controls = [0x03, 0x13, 0x0F, 0x23, 0x93, 0x83].map(|control| vec![control, 0xF0, b'A']);
+    let mut all = Vec::new();
+    for end in controls.into_iter().chain([vec![0x13, 0x00]]) {
+        for command in [0, 1] {
+            all.push((command, [&head(CQ, K1A, &[], 6 + usize::from(command))[..], &end].concat()));
+        }
+    }
+    all
+}
+
+/// Every control byte with some PIDs, under both commands, after no digipeater, one and eight.
+pub fn every_control() -> Vec<Data> {
+    let mut all = Vec::new();
+    for (control, pid) in (0..=0xFF).flat_map(|control| [0xF0, 0x70, 0x13, 0x00].map(|pid| (control, pid))) {
+        for digis in [0, 1, 8] {
+            for command in [0, 1] {
+                let head = head(APRS, K1A, &[CQ; 8][..digis], 6 + usize::from(command));
+                all.push((command, [&head[..], &[control, pid, b'A']].concat()));
+            }
+        }
+    }
+    all
+}
+
 /// Positions with every table, with blanks, too large, too short, and with one byte that makes them text.
 fn places() -> Vec<Data> {
     let mut all = Vec::new();

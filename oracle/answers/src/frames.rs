@@ -170,11 +170,26 @@ fn information(r: &mut Random, n: usize, types: usize) -> Vec<u8> {
 
 /// A frame with calls of l letters.
 pub fn frame(r: &mut Random, l: usize) -> Vec<u8> {
+    frame_with(r, l, |r| if seldom(r, 8) { [r.byte(), r.byte()] } else { [0x03, 0xF0] })
+}
+
+/// A frame with calls of l letters, whose control and PID are drawn so.
+fn frame_with(r: &mut Random, l: usize, control: fn(&mut Random) -> [u8; 2]) -> Vec<u8> {
     let mut f = addresses(r, l);
-    f.extend(if seldom(r, 8) { [r.byte(), r.byte()] } else { [0x03, 0xF0] });
+    f.extend(control(r));
     let n = length(r, MAX_DATA - 250);
     f.extend(information(r, n, 8));
     f
+}
+
+/// A command and a frame whose control is 03 or 13, at times with one bit changed, and whose PID is F0 or another.
+pub fn near_ui(r: &mut Random) -> (u8, Vec<u8>) {
+    let command = u8::from(seldom(r, 4));
+    let data = frame_with(r, 6 + usize::from(command), |r| {
+        let control = r.one_of(&[0x03, 0x13]) ^ if seldom(r, 2) { 1 << r.below(8) } else { 0 };
+        [control, if seldom(r, 2) { r.byte() } else { 0xF0 }]
+    });
+    (command, data)
 }
 
 /// Bytes changed, cut, added or doubled.

@@ -33,8 +33,9 @@ pub const FORMAT: u8 = 5;
 pub const UNDECODABLE: u8 = 7;
 pub const BAD_FIELD: u8 = 8;
 
-/// The control byte of a UI frame.
+/// AX.25 2.2 writes control of a UI frame as 000P0011: with P clear, and P.
 const UI: u8 = 0x03;
+const POLL: u8 = 0x10;
 
 /// Codes data: the message and its type's code.
 pub fn encode(command: u8, data: &[u8]) -> Result<(Vec<u8>, u8), u8> {
@@ -52,14 +53,14 @@ pub fn decode(message: &[u8]) -> Result<(u8, Vec<u8>), u8> {
     Ok((command.byte(), data))
 }
 
-/// The summary of data to code: type, number of digipeaters, and whether control is 03.
+/// The summary of data to code: type, number of digipeaters, and whether control is 03 or 13.
 pub fn summary(command: u8, data: &[u8]) -> Result<(u8, usize, bool), u8> {
     let command = accepted(command, data)?;
     if command == Command::Generic {
         return Ok((ax25::AprsType::Text.code(), 0, false));
     }
     let record = ax25::parse(data, command).map_err(ax25_refusal)?;
-    Ok((record.aprs_type.code(), record.digis.len(), record.ctrl == UI))
+    Ok((record.aprs_type.code(), record.digis.len(), record.ctrl & !POLL == UI))
 }
 
 /// CRC-16/GENIBUS.

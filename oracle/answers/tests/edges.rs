@@ -2,7 +2,7 @@
 
 use answers::hex::{from_hex, to_hex};
 use answers::random::Random;
-use answers::{Answer, MASKS, Receiver, State, count, crc, decode, encode, frame, most, sent, split, summary};
+use answers::{Answer, MASKS, Receiver, State, cases, count, crc, decode, encode, frame, most, sent, split, summary};
 use xara_arq::ax25::{token_decode, token_encode};
 use xara_arq::bits::{Bits, Reader};
 use xara_arq::{cq, kiss};
@@ -96,6 +96,37 @@ fn a_frame_of_17_bytes() {
     assert_eq!(coded(0, &bytes(FRAME)), MESSAGE);
     assert_eq!(decode(&bytes(MESSAGE)), Ok((0, bytes(FRAME))));
     assert_eq!(summary(0, &bytes(FRAME)), Ok((0, 0, true)));
+}
+
+/// The addresses of that frame with calls of six letters and of seven, as under commands 0 and 1.
+const ADDRESSES: [&str; 2] = ["86A2404040406096628240404061", "86A24040404040609662824040404061"];
+
+/// The frame under a command with another control byte, PID and information.
+fn with_end(command: u8, end: &str) -> Vec<u8> {
+    bytes(&[ADDRESSES[usize::from(command)], end].concat())
+}
+
+/// The worked examples of 02's request E4: UI in the summary is control 03 or 13, whatever the PID is.
+#[test]
+fn polled_frames() {
+    let examples = [("03F041", true), ("13F041", true), ("0FF041", false), ("23F041", false), ("93F041", false)];
+    for (end, ui) in examples.into_iter().chain([("83F041", false), ("1300", true)]) {
+        for command in [0, 1] {
+            assert_eq!(summary(command, &with_end(command, end)), Ok((0, 0, ui)), "{end}");
+            assert!(cases::polled().contains(&(command, with_end(command, end))), "{end}");
+        }
+    }
+    for control in 0..=0xFF {
+        let ui = summary(0, &with_end(0, &format!("{control:02X}00"))).map(|(_, _, ui)| ui);
+        assert_eq!(ui, Ok(control == 0x03 || control == 0x13), "{control:02X}");
+    }
+}
+
+/// The coder treats only 03 with PID F0 as the short header: 13 is coded in the body, and so is the PID, whose high bit is lost.
+#[test]
+fn a_polled_frame_is_coded_as_before() {
+    assert_eq!(coded(0, &with_end(0, "13F041")), "00ACB7010004F84100");
+    assert_eq!(decode(&bytes("00ACB7010004F84100")), Ok((0, with_end(0, "137041"))));
 }
 
 /// Its fragments as the sender hands them out.

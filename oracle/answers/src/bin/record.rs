@@ -658,7 +658,8 @@ fn message(r: &mut Random, total: usize) -> Vec<u8> {
 fn encode(out: &mut String) {
     *out += "\
 # encode CMD ROOM HEX ANSWER: data coded under a command, to an output of ROOM bytes; an answer is TYPE:HEX or refused:N.
-# Every type and refusal, calls and bodies of every odd kind, a text at every place of a bit, drawn ones, the longest.
+# Every type and refusal, calls and bodies of every odd kind, a text at every place of a bit, drawn ones, frames with a
+# control byte of 03, 13 and beside them, the longest.
 ";
     let mut r = Random::new(SEED, "encode");
     for (k, (command, data)) in cases::all(&mut r).into_iter().enumerate() {
@@ -670,7 +671,7 @@ fn encode(out: &mut String) {
         let room = message_of(command, &data).map_or(0, |m| m.len() + [0, 0, 0, 7][r.below(4)]);
         encode_line(out, command, &data, room);
     }
-    for (command, data) in cases::longest(&mut r) {
+    for (command, data) in cases::polled().into_iter().chain(cases::longest(&mut r)) {
         encode_line(out, command, &data, 5_000);
     }
 }
@@ -681,11 +682,11 @@ fn encode_line(out: &mut String, command: u8, data: &[u8], room: usize) {
 }
 
 fn summary(out: &mut String) {
-    *out += "# summary CMD HEX ANSWER: type, digipeaters and 1 where control is 03, as TYPE:DIGIS:UI, or refused:N.\n";
+    *out += "# summary CMD HEX ANSWER: type, digipeaters and 1 where control is 03 or 13, as TYPE:DIGIS:UI, or refused:N.\n";
     let mut r = Random::new(SEED, "summary");
     let short = |(_, data): &(u8, Vec<u8>)| data.len() < 60;
     let some = cases::all(&mut r).into_iter().filter(short).step_by(4);
-    let all = cases::refused().into_iter().chain(cases::digipeaters()).chain(some);
+    let all = cases::refused().into_iter().chain(cases::polled()).chain(cases::digipeaters()).chain(some);
     for (command, data) in all.chain(drawn_data(&mut r, 200)).chain(cases::longest(&mut r).into_iter().skip(3)) {
         summary_line(out, command, &data);
     }
@@ -725,7 +726,8 @@ fn decode(out: &mut String) {
             }
         }
     }
-    for message in cases::long_messages(&mut r) {
+    let polled = cases::polled().into_iter().filter_map(|(command, data)| message_of(command, &data));
+    for message in polled.chain(cases::long_messages(&mut r)) {
         decode_line(out, &message, data_of(&message).map_or(0, |d| d.len()));
     }
     decode_line(out, &cases::largest(), 45_763);

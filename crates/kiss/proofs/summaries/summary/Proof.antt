@@ -39,13 +39,16 @@ returns-4 c =
     let p = sym (c .before .before .parse .ensures) ∙ ap foundOf (c .enum-told .given .1) in
     of-short (a .command) (now (a .«data»)) (else3 .before .before .if1 .left) (else3 .before .if2 .left) (else3 .if3 .left) p
 
+ui-control-requires : tie.Need-ui-control-requires
+ui-control-requires c κs = search needs
+
 returns-5 : tie.Need-returns-5
 returns-5 c =
     let else3 = c .before .before .before .before .before in
     let a = else3 .before .before .before .before .args in
     let found = c .before .before .found .given in
     let p = sym (c .before .before .before .before .parse .ensures) ∙ ap foundOf (found .1) in
-    of-found (a .command) (now (a .«data»)) (else3 .before .before .if1 .left) (else3 .before .if2 .left) (else3 .if3 .left) _ p
+    of-found (a .command) (now (a .«data»)) (else3 .before .before .if1 .left) (else3 .before .if2 .left) (else3 .if3 .left) _ _ p (c .ui-control .ensures)
 
 pub summary-spec : {M : Type 1} → statement M
 summary-spec =
@@ -58,4 +61,5 @@ summary-spec =
     enum-known-found
     enum-told
     returns-4
+    ui-control-requires
     returns-5)
