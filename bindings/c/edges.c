@@ -1,10 +1,10 @@
 /*
  * Every output length from 0 to one more than the answer's, every refusal's number, frames and fragments of every length, texts
- * with white space and the bytes beside it at their edges, every control byte of a frame, every mask with its longest messages and
- * its worked examples, the lengths of fragments, and receiver states that no call leads to. Every field of every answer is looked at, flags as the bytes
- * that they are, and every input for being unchanged. Every buffer has its exact length on the heap, so that valgrind sees a byte
- * read or written beside it. Prints how many calls were held against what is to be expected; the exit status is 1 where one
- * differs.
+ * with white space and the bytes beside it at their edges, every control byte, every mask with its longest messages and its worked
+ * examples, the lengths of fragments, and receiver states that no call leads to. Every field of every answer is looked at, flags
+ * as the bytes that they are, and every input for being unchanged. Every buffer has its exact length on the heap, so that
+ * valgrind sees a byte read or written beside it. Prints how many calls were held against what is to be expected; the exit status
+ * is 1 where one differs.
  */
 #include "xara.h"
 
@@ -329,21 +329,24 @@ static size_t with_control(uint8_t command, uint8_t control, uint8_t pid, uint8_
 }
 
 /* UI is control 03 or 13, 000P0011, whatever the PID is; generic bytes are never UI. */
+static void one_control(uint8_t command, uint8_t control, uint8_t pid)
+{
+    uint8_t frame[19];
+    size_t n = with_control(command, control, pid, frame);
+    uint8_t ui = command != XARA_GENERIC && (control == 0x03 || control == 0x13), *lent = copied(frame, n);
+    expect(summed_up(xara_summary(command, lent, n), 0, XARA_TEXT, ui, 0), "control", control);
+    expect(memcmp(lent, frame, n) == 0, "data with this control", control);
+    free(lent);
+}
+
+/* Every control byte with some PIDs, under every command. */
 static void every_control(void)
 {
     static const uint8_t pids[] = {0xF0, 0x00, 0x03, 0x13, 0xCF};
-    for (unsigned control = 0; control < 256; control++) {
-        for (size_t p = 0; p < sizeof pids; p++) {
-            for (unsigned command = 0; command < 3; command++) {
-                uint8_t frame[19];
-                size_t n = with_control((uint8_t)command, (uint8_t)control, pids[p], frame);
-                uint8_t ui = command != XARA_GENERIC && (control == 0x03 || control == 0x13), *lent = copied(frame, n);
-                expect(summed_up(xara_summary((uint8_t)command, lent, n), 0, XARA_TEXT, ui, 0), "control", control);
-                expect(memcmp(lent, frame, n) == 0, "data with this control", control);
-                free(lent);
-            }
-        }
-    }
+    for (unsigned control = 0; control < 256; control++)
+        for (size_t p = 0; p < sizeof pids; p++)
+            for (uint8_t command = 0; command < 3; command++)
+                one_control(command, (uint8_t)control, pids[p]);
 }
 
 /* The coder treats only 03 with PID F0 as the short header: 13 and F0 are coded in the body, as letters of seven bits. */

@@ -33,7 +33,7 @@ pub const FORMAT: u8 = 5;
 pub const UNDECODABLE: u8 = 7;
 pub const BAD_FIELD: u8 = 8;
 
-/// AX.25 2.2 writes control of a UI frame as 000P0011: with P clear, and P.
+/// Control of a UI frame is 000P0011 (AX.25 2.2): that byte without P, and P.
 const UI: u8 = 0x03;
 const POLL: u8 = 0x10;
 

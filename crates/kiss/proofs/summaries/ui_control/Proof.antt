@@ -1,4 +1,4 @@
--- `kiss::ui_control` meets its contract.
+-- `kiss::summaries::ui_control` meets its contract.
 -- Assumes nothing.
 use borrow.Author.Tests.{eq-eqb, ne-eqb}
 use Rattle.kiss.proofs.summaries.ui_control.Statement.{statement}
