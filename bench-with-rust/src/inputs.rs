@@ -61,6 +61,24 @@ pub fn polled(mut frame: Vec<u8>) -> Vec<u8> {
     frame
 }
 
+/// A frame without digipeaters and with this information.
+pub fn frame_with(information: &[u8]) -> Vec<u8> {
+    [&header()[..], information].concat()
+}
+
+/// A status report of 80 bytes through eight digipeaters.
+pub fn digipeated_frame() -> Vec<u8> {
+    let digis: Vec<u8> = (1..=8).flat_map(|ssid| address(b"K2B   ", ssid, ssid == 8)).collect();
+    [&address(b"APRS  ", 0, false)[..], &address(b"DL1ABC", 9, false), &digis, &[0x03, 0xF0], b">hello!!"].concat()
+}
+
+/// A status report of a long frame, with calls of seven letters.
+pub fn long_frame() -> Vec<u8> {
+    let address = |call: &[u8; 7], ssid: u8| call.iter().map(|c| c << 1).chain([ssid]).collect::<Vec<u8>>();
+    [&address(b"APRS   ", 0x60)[..], &address(b"DL1ABCD", 0x73), &[0x03, 0xF0], b">on the way to the relay on the hill"]
+        .concat()
+}
+
 /// A frame of any bytes, coded as Binary.
 pub fn binary_frame(r: &mut Random, length: usize) -> Vec<u8> {
     let mut frame = header();

@@ -1,7 +1,9 @@
 //! The rows: each call of the source beside the exported one, on the same input. Outputs of ours are made once, as a
 //! gateway holds them; the source makes its own.
 
-use crate::inputs::{Random, binary_frame, message, polled, position_frame, text_frame};
+use crate::inputs::{
+    Random, binary_frame, digipeated_frame, frame_with, long_frame, message, polled, position_frame, text_frame,
+};
 use crate::table::{Table, same};
 use crate::xara::{self, Heard, Receiver};
 use std::hint::black_box;
@@ -85,31 +87,43 @@ fn decoding(table: &mut Table, kind: &str, bytes: usize, message: Rc<[u8]>, bar:
     table.add(&name, bytes, bar, source, move || xara::decode(black_box(&message), black_box(&mut out)));
 }
 
-/// What a frame is: Text and Binary, a polled Text, and a position report with a digipeater. The source's `parse` finds as much,
-/// and the calls too.
+/// Information of the types that are neither Text, Binary nor a position without a time.
+const TYPES: [(&str, &[u8]); 3] = [
+    ("polled time", b"@092345h4903.50N/00723.75E>/A=001234 VARA HF"),
+    ("polled message", b":DL2XYZ-7 :ack12 on the way to the relay"),
+    ("polled third", b"}DL2XYZ>APRS,TCPIP,DL3ABC*:!4903.50N/00723.75E>"),
+];
+
+/// What a frame is: Text, polled or not, and Binary of each size, the other types, eight digipeaters and a long frame. The
+/// source's `parse` finds as much, and the calls too.
 pub fn summaries(table: &mut Table) {
     let mut r = Random::new();
     for bytes in SIZES {
-        summary(table, "text", text_frame(&mut r, bytes));
-        summary(table, "polled text", polled(text_frame(&mut r, bytes)));
-        summary(table, "binary", binary_frame(&mut r, bytes));
+        summary(table, "text", Command::Ax25, text_frame(&mut r, bytes));
+        summary(table, "polled text", Command::Ax25, polled(text_frame(&mut r, bytes)));
+        summary(table, "binary", Command::Ax25, binary_frame(&mut r, bytes));
     }
-    summary(table, "position", position_frame());
+    summary(table, "position", Command::Ax25, position_frame());
+    for (kind, information) in TYPES {
+        summary(table, kind, Command::Ax25, polled(frame_with(information)));
+    }
+    summary(table, "eight digis", Command::Ax25, digipeated_frame());
+    summary(table, "long text", Command::Ax25Long, long_frame());
 }
 
-fn summary(table: &mut Table, kind: &str, data: Vec<u8>) {
+fn summary(table: &mut Table, kind: &str, command: Command, data: Vec<u8>) {
     let (name, bytes) = (format!("summary {kind}"), data.len());
     if !table.wants(&name, bytes) {
         return;
     }
-    let record = ax25::parse(&data, Command::Ax25).expect("the input is a frame");
-    let (aprs_type, digis, ui) = xara::summary(Command::Ax25.byte(), &data).told().expect("the input is a frame");
+    let record = ax25::parse(&data, command).expect("the input is a frame");
+    let (aprs_type, digis, ui) = xara::summary(command.byte(), &data).told().expect("the input is a frame");
     let expected = [record.aprs_type.code(), record.digis.len() as u8, u8::from(matches!(record.ctrl, 0x03 | 0x13))];
     same(&name, &expected, &[aprs_type, digis as u8, u8::from(ui)]);
     let data: Rc<[u8]> = data.into();
     let theirs = Rc::clone(&data);
-    let source = move || ax25::parse(black_box(&theirs), Command::Ax25);
-    table.add(&name, bytes, Some(SUMMARY_BAR), source, move || xara::summary(Command::Ax25.byte(), black_box(&data)));
+    let source = move || ax25::parse(black_box(&theirs), command);
+    table.add(&name, bytes, Some(SUMMARY_BAR), source, move || xara::summary(command.byte(), black_box(&data)));
 }
 
 pub fn crc(table: &mut Table) {

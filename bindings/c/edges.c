@@ -339,6 +339,19 @@ static void one_control(uint8_t command, uint8_t control, uint8_t pid)
     free(lent);
 }
 
+/* A polled frame that is cut short anywhere is refused; with both control and PID it is UI without any information. */
+static void polled_cut(uint8_t command)
+{
+    uint8_t frame[19];
+    size_t whole = with_control(command, 0x13, 0xF0, frame) - 1;
+    for (size_t n = 0; n <= whole; n++) {
+        uint8_t *lent = copied(frame, n), is = n == whole, refusal = is ? 0 : XARA_REFUSAL_SHORT;
+        expect(summed_up(xara_summary(command, lent, n), refusal, XARA_TEXT, is, 0), "polled and cut", n);
+        expect(memcmp(lent, frame, n) == 0, "polled and cut bytes", n);
+        free(lent);
+    }
+}
+
 /* Every control byte with some PIDs, under every command. */
 static void every_control(void)
 {
@@ -347,6 +360,8 @@ static void every_control(void)
         for (size_t p = 0; p < sizeof pids; p++)
             for (uint8_t command = 0; command < 3; command++)
                 one_control(command, (uint8_t)control, pids[p]);
+    polled_cut(XARA_AX25);
+    polled_cut(XARA_AX25_LONG);
 }
 
 /* The coder treats only 03 with PID F0 as the short header: 13 and F0 are coded in the body, as letters of seven bits. */
@@ -389,16 +404,20 @@ static void nothing(void)
     free(out);
 }
 
-/* Every command but the three. */
+/* Every command but the three, which is refused before the summary looks at a length. */
 static void command_refusals(void)
 {
-    uint8_t *frame = filled(20), *out = filled(100);
+    static const size_t lengths[] = {0, 15, 20, XARA_MAX_DATA, XARA_MAX_DATA + 1};
+    uint8_t *frame = filled(XARA_MAX_DATA + 1), *out = filled(100);
     for (unsigned command = 3; command < 256; command++) {
         XaraEncoded a = xara_encode((uint8_t)command, frame, 20, out, 100);
         expect(encoded(a, XARA_REFUSAL_COMMAND, 0, 0), "command", command);
-        expect(summed_up(xara_summary((uint8_t)command, frame, 20), XARA_REFUSAL_COMMAND, 0, 0, 0), "summary", command);
+        for (size_t i = 0; i < sizeof lengths / sizeof *lengths; i++) {
+            XaraSummary s = xara_summary((uint8_t)command, frame, lengths[i]);
+            expect(summed_up(s, XARA_REFUSAL_COMMAND, 0, 0, 0), "summary", command);
+        }
     }
-    expect(untouched(frame, 20) && untouched(out, 100), "command's bytes", 0);
+    expect(untouched(frame, XARA_MAX_DATA + 1) && untouched(out, 100), "command's bytes", 0);
     free(frame);
     free(out);
 }

@@ -231,7 +231,7 @@ fn polled_frames() {
     assert_eq!(Decoder::new().decode(&message), Ok((Command::Ax25, &frame(b"CQ    ", b"\x13\x70A")[..])));
 }
 
-/// A long frame has calls of seven letters, and comes back as one.
+/// A long frame has calls of seven letters, and comes back as one. Its summary tells UI by control, too.
 #[test]
 fn a_long_frame_arrives() {
     let address = |call: &[u8; 7], low: u8| call.iter().map(|c| c << 1).chain([low]).collect::<Vec<u8>>();
@@ -239,6 +239,11 @@ fn a_long_frame_arrives() {
     let mut encoder = Encoder::new();
     let message = encoder.encode(Command::Ax25Long, &data).expect("it is coded");
     assert_eq!(Decoder::new().decode(&message), Ok((Command::Ax25Long, &data[..])));
+    for (control, ui) in [(0x03, true), (0x13, true), (0x93, false)] {
+        let polled = [&data[..16], &[control], &data[17..]].concat();
+        let summary = Summary { aprs_type: AprsType::Text, ui, digis: 0 };
+        assert_eq!(xara::summary(Command::Ax25Long, &polled), Ok(summary));
+    }
 }
 
 #[test]
