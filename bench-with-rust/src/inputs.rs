@@ -66,10 +66,16 @@ pub fn frame_with(information: &[u8]) -> Vec<u8> {
     [&header()[..], information].concat()
 }
 
-/// A status report of 80 bytes through eight digipeaters.
-pub fn digipeated_frame() -> Vec<u8> {
-    let digis: Vec<u8> = (1..=8).flat_map(|ssid| address(b"K2B   ", ssid, ssid == 8)).collect();
+/// A status report of 80 bytes through eight digipeaters with this call.
+pub fn digipeated_frame(call: &[u8; 6]) -> Vec<u8> {
+    let digis: Vec<u8> = (1..=8).flat_map(|ssid| address(call, ssid, ssid == 8)).collect();
     [&address(b"APRS  ", 0, false)[..], &address(b"DL1ABC", 9, false), &digis, &[0x03, 0xF0], b">hello!!"].concat()
+}
+
+/// The same frame with an underscore, which has no code, as the second letter of address k.
+pub fn bad_letter(mut frame: Vec<u8>, k: usize) -> Vec<u8> {
+    frame[7 * k + 1] = b'_' << 1;
+    frame
 }
 
 /// A status report of a long frame, with calls of seven letters.

@@ -2,7 +2,8 @@
 //! gateway holds them; the source makes its own.
 
 use crate::inputs::{
-    Random, binary_frame, digipeated_frame, frame_with, long_frame, message, polled, position_frame, text_frame,
+    Random, bad_letter, binary_frame, digipeated_frame, frame_with, long_frame, message, polled, position_frame,
+    text_frame,
 };
 use crate::table::{Table, same};
 use crate::xara::{self, Heard, Receiver};
@@ -21,12 +22,13 @@ const MOST_DECODED: usize = 45_764;
 /// The receiver's store.
 const STORE: usize = 5000;
 /// Text and generic 7 bit of 4,999 bytes; the position report; crc, fragments, frame and push; fragments and push under a
-/// mask of another number of check bits; the summary.
+/// mask of another number of check bits; the summary; calls.
 const TEXT_BAR: f64 = 5.0;
 const POSITION_BAR: f64 = 2.0;
 const OTHER_BAR: f64 = 3.0;
 const MASK_BAR: f64 = 1.0;
 const SUMMARY_BAR: f64 = 1.0;
+const CALLS_BAR: f64 = 1.0;
 
 const MARKER: u8 = 0x01;
 const CONTROL: Control = Control { reply: 1, compressed: false, hint: 2 };
@@ -51,6 +53,18 @@ pub fn position(table: &mut Table) {
     coding(table, "position", Command::Ax25, position_frame(), Some(POSITION_BAR));
 }
 
+/// What a loaded relay codes letter by letter: calls of eight digipeaters, of six letters, of three and of small ones; calls of
+/// seven letters; and frames refused for a letter that has no code, in the source and in the last digipeater.
+pub fn calls(table: &mut Table) {
+    for (kind, call) in [("six letters", b"DB0XYZ"), ("three letters", b"K2B   "), ("small letters", b"db0xyz")] {
+        coding(table, kind, Command::Ax25, digipeated_frame(call), Some(CALLS_BAR));
+    }
+    coding(table, "long text", Command::Ax25Long, long_frame(), Some(CALLS_BAR));
+    for (kind, k) in [("bad source", 1), ("bad last digi", 9)] {
+        refusing(table, kind, Command::Ax25, bad_letter(digipeated_frame(b"DB0XYZ"), k));
+    }
+}
+
 /// Some data both ways.
 fn coding(table: &mut Table, kind: &str, command: Command, data: Vec<u8>, bar: Option<f64>) {
     let (bytes, data): (_, Rc<[u8]>) = (data.len(), data.into());
@@ -71,6 +85,22 @@ fn encoding(table: &mut Table, kind: &str, command: Command, data: Rc<[u8]>, mes
     let theirs = Rc::clone(&data);
     let source = move || kiss::encode(command, black_box(&theirs));
     table.add(&name, bytes, bar, source, move || xara::encode(command.byte(), black_box(&data), black_box(&mut out)));
+}
+
+/// Data with a bad call, which is refused with 4.
+fn refusing(table: &mut Table, kind: &str, command: Command, data: Vec<u8>) {
+    let (name, bytes) = (format!("encode {kind}"), data.len());
+    if !table.wants(&name, bytes) {
+        return;
+    }
+    let mut out = vec![0; STORE];
+    assert!(kiss::encode(command, &data).is_err(), "the source refuses it");
+    assert_eq!(xara::encode(command.byte(), &data, &mut out).told(), Err(4));
+    let data: Rc<[u8]> = data.into();
+    let theirs = Rc::clone(&data);
+    let source = move || kiss::encode(command, black_box(&theirs));
+    let ours = move || xara::encode(command.byte(), black_box(&data), black_box(&mut out));
+    table.add(&name, bytes, Some(CALLS_BAR), source, ours);
 }
 
 /// A message that so many bytes were coded to.
@@ -107,7 +137,7 @@ pub fn summaries(table: &mut Table) {
     for (kind, information) in TYPES {
         summary(table, kind, Command::Ax25, polled(frame_with(information)));
     }
-    summary(table, "eight digis", Command::Ax25, digipeated_frame());
+    summary(table, "eight digis", Command::Ax25, digipeated_frame(b"K2B   "));
     summary(table, "long text", Command::Ax25Long, long_frame());
 }
 

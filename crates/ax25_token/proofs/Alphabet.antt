@@ -1,80 +1,94 @@
--- The code of a letter, by ranges: one computed test over the bytes up to Z, and one law past them.
+-- The table of letter codes: its rule and the inverse of the alphabet, by one computed test over all bytes and one over all codes.
 -- Assumes nothing.
-use mathlib.Core.Path.{_≡_, refl, ap}
-use mathlib.Core.Bool.{Bool, true, _&&_}
-use mathlib.Core.List.{List, [], _∷_}
+use mathlib.Core.Path.{_≡_, refl, ap, _∙_}
+use mathlib.Core.Bool.{Bool, true, false, _&&_, false≢true}
+use mathlib.Core.List.{List}
 use mathlib.Core.Option.{Option, none, some}
-use Prim.Native.Nat.{ℕ, suc, _-_, _≤_, _<_}
-use native.Mathlib.Omega.{arith}
+use Prim.Native.Nat.{ℕ, _≤_, _<_}
+use lib.ListN.{length, getD}
 use lib.Dec.{eqb, ltb}
-use borrow.Author.Tests.{eqb-true, ltb-true, eq-eqb, ne-eqb, le-leb, lt-leb}
+use borrow.Author.Tests.{eqb-true, lt-ltb, le-ltb}
 use Rattle.laws.specs.Pick.{pick}
-use Rattle.laws.specs.Text.{between, isDigit, later, position}
+use Rattle.laws.specs.Text.{later, position}
 use Rattle.laws.proofs.Cases.{and-left, and-right}
 use Rattle.laws.proofs.TextLaws.{below, at-each}
-use Rattle.ax25_token.specs.Tables.{callAlphabet, alphaOf}
+use Rattle.ax25_token.specs.Tables.{callAlphabet, alphaOf, letterCodes, entryCode}
 
--- blank, digits, letters, nothing
-byRange : ℕ → Option ℕ
-byRange x = pick (eqb x 32) (some 0) (pick (isDigit x) (some (x - 21)) (pick (between 65 90 x) (some (x - 64)) none))
+-- ---- the same code, or none both times
 
--- one more than a code, or 0
-placed : Option ℕ → ℕ
-placed none = 0
-placed (some v) = suc v
+unfoldable pub sameCode : Option ℕ → Option ℕ → Bool
+sameCode none none = true
+sameCode none (some w) = false
+sameCode (some v) none = false
+sameCode (some v) (some w) = eqb v w
 
-placed-eq : (o p : Option ℕ) → placed o ≡ placed p → o ≡ p
-unfolding placed
-placed-eq none none e = refl
-placed-eq none (some v) e = absurd (omega arith)
-placed-eq (some v) none e = absurd (omega arith)
-placed-eq (some v) (some w) e = let q : v ≡ w = omega arith in ap some q
+same-code : (o p : Option ℕ) → sameCode o p ≡ true → o ≡ p
+unfolding sameCode
+same-code none none e = refl
+same-code none (some w) e = absurd (false≢true e)
+same-code (some v) none e = absurd (false≢true e)
+same-code (some v) (some w) e = ap some (eqb-true v w e)
 
+-- ---- what an entry stands for
+
+pub entry-code : (e : ℕ) → e < 37 → entryCode e ≡ some e
+unfolding entryCode pick
+entry-code e h = rw (lt-ltb e 37 h)
+
+pub entry-no-code : (e : ℕ) → 37 ≤ e → entryCode e ≡ none
+unfolding entryCode pick
+entry-no-code e h = rw (le-ltb e 37 h)
+
+-- ---- the whole table
+
+abbrev entry : ℕ → ℕ
+entry b = getD letterCodes b 0
+
+-- the entry of a byte stands for what the lookup promises; it is the code of that very letter, or 255
 right : ℕ → Bool
-right x = eqb (placed (alphaOf x)) (placed (byRange x))
+right b = sameCode (entryCode (entry b)) (alphaOf b)
 
-allUnder : ℕ → List ℕ → Bool
-allUnder m [] = true
-allUnder m (y ∷ l) = ltb y m && allUnder m l
+exact : ℕ → Bool
+exact b = pick (ltb (entry b) 37) (eqb (getD callAlphabet (entry b) 0) b) (eqb (entry b) 255)
 
-all-right : (below right 91 ≡ true) × (allUnder 91 callAlphabet ≡ true)
-unfolding below right placed byRange alphaOf callAlphabet position later pick isDigit between allUnder
-all-right = (refl, refl)
+-- the letter of a code has that code
+back : ℕ → Bool
+back v = eqb (entry (getD callAlphabet v 0)) v
 
-no-place : (m x : ℕ) (l : List ℕ) → allUnder m l ≡ true → m ≤ x → position x l ≡ none
-unfolding allUnder position pick later
-no-place m x [] e h = refl
-no-place m x (y ∷ l) e h =
-    let lt : y < m = ltb-true y m (and-left (ltb y m) (allUnder m l) e) in
-    rw (ne-eqb x y (λ q. omega arith), no-place m x l (and-right (ltb y m) (allUnder m l) e) h)
+tested : ℕ → Bool
+tested b = right b && exact b
 
-by-range : (x : ℕ) → x < 91 → alphaOf x ≡ byRange x
-unfolding right
-by-range x h = placed-eq (alphaOf x) (byRange x) (eqb-true (placed (alphaOf x)) (placed (byRange x)) (at-each right 91 (all-right .0) x h))
+all-tested : (below tested 256 ≡ true) × (below back 37 ≡ true)
+unfolding below tested right exact back sameCode entryCode alphaOf callAlphabet letterCodes position later pick
+all-tested = (refl, refl)
 
-module _ (x : ℕ) where
-  pub alpha-blank : x ≡ 32 → alphaOf x ≡ some 0
-  unfolding byRange pick
-  alpha-blank e = rw (by-range x (omega arith), eq-eqb x 32 e)
+pub entries : length letterCodes ≡ 256
+unfolding letterCodes
+entries = refl
 
-  pub alpha-digit : 48 ≤ x → x ≤ 57 → alphaOf x ≡ some (x - 21)
-  unfolding byRange isDigit between pick
-  alpha-digit h k = rw (by-range x (omega arith), ne-eqb x 32 (λ q. omega arith), le-leb 48 x h, le-leb x 57 k)
+-- "each entry is exactly what the lookup promises for that byte"
+pub entry-right : (b : ℕ) → b < 256 → entryCode (getD letterCodes b 0) ≡ alphaOf b
+unfolding tested right
+entry-right b h = same-code (entryCode (entry b)) (alphaOf b) (and-left (right b) (exact b) (at-each tested 256 (all-tested .0) b h))
 
-  pub alpha-letter : 65 ≤ x → x ≤ 90 → alphaOf x ≡ some (x - 64)
-  unfolding byRange isDigit between pick
-  alpha-letter h k =
-      rw (by-range x (omega arith), ne-eqb x 32 (λ q. omega arith), le-leb 48 x (omega arith), lt-leb x 57 (omega arith), le-leb 65 x h, le-leb x 90 k)
+module _ (b : ℕ) (h : b < 256) where
+  is-exact : exact b ≡ true
+  unfolding tested
+  is-exact = and-right (right b) (exact b) (at-each tested 256 (all-tested .0) b h)
 
-  pub alpha-none-low : x < 48 → (x ≡ 32 → ⊥) → alphaOf x ≡ none
-  unfolding byRange isDigit between pick
-  alpha-none-low h e = rw (by-range x (omega arith), ne-eqb x 32 e, lt-leb 48 x h, lt-leb 65 x (omega arith))
+  pub entry-letter : getD letterCodes b 0 < 37 → getD callAlphabet (getD letterCodes b 0) 0 ≡ b
+  unfolding exact pick
+  entry-letter l = eqb-true (getD callAlphabet (entry b) 0) b (rw (lt-ltb (entry b) 37 l) at is-exact)
 
-  pub alpha-none-middle : 57 < x → x < 65 → alphaOf x ≡ none
-  unfolding byRange isDigit between pick
-  alpha-none-middle h k =
-      rw (by-range x (omega arith), ne-eqb x 32 (λ q. omega arith), le-leb 48 x (omega arith), lt-leb x 57 h, lt-leb 65 x k)
+  pub entry-none : 37 ≤ getD letterCodes b 0 → getD letterCodes b 0 ≡ 255
+  unfolding exact pick
+  entry-none l = eqb-true (entry b) 255 (rw (le-ltb (entry b) 37 l) at is-exact)
 
-  pub alpha-none-high : 90 < x → alphaOf x ≡ none
-  unfolding alphaOf
-  alpha-none-high h = no-place 91 x callAlphabet (all-right .1) h
+-- the inverse rule
+pub entry-back : (v : ℕ) → v < 37 → getD letterCodes (getD callAlphabet v 0) 0 ≡ v
+unfolding back
+entry-back v h = eqb-true (entry (getD callAlphabet v 0)) v (at-each back 37 (all-tested .1) v h)
+
+-- what is read in a list that is the table
+pub entry-in : (codes : List ℕ) (x : ℕ) → codes ≡ letterCodes → x < 256 → entryCode (getD codes x 0) ≡ alphaOf x
+entry-in codes x e h = ap (λ (l : List ℕ). entryCode (getD l x 0)) e ∙ entry-right x h

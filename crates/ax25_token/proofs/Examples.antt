@@ -1,4 +1,4 @@
--- Document 01's examples of tokens and one of each path, computed.
+-- Document 01's examples of tokens and one of each path, and letter codes (02, E2), computed.
 -- Assumes nothing.
 use mathlib.Core.Path.{_≡_, refl}
 use mathlib.Core.Bool.{Bool, true, _&&_}
@@ -7,13 +7,29 @@ use mathlib.Core.Option.{Option, none, some}
 use Prim.Native.Nat.{ℕ}
 use Prim.Native.String.{String}
 use lib.Dec.{eqb}
+use lib.ListN.{getD}
 use Rattle.laws.specs.Bits.{odd, num, bitsOf, valueOf}
 use Rattle.laws.specs.Pick.{pick}
 use Rattle.laws.specs.Text.{ascii, between, upper, same, isOneOf, starts, later, position}
 use Rattle.bits.specs.Read.{letter, takeBits, takeText}
 use Rattle.bits.specs.Val.{stops, nextVal, valFrom, valOf}
-use Rattle.ax25_token.specs.Tables.{callAlphabet, long, symOf, alphaOf, wideTokens, wideRow, pairRows, pairTexts, fixedRows, numberedRows}
+use Rattle.ax25_token.specs.Tables.{callAlphabet, long, symOf, alphaOf, letterCodes, entryCode, wideTokens, wideRow, pairRows, pairTexts, fixedRows, numberedRows}
 use Rattle.ax25_token.specs.Token.{hyphened, baseOf, behind, numberAt, twoDigits, decimal, suffix, pairBits, pairsBits, fixedBits, takes, numberedBits, spell, ending, plainAp, apBits, spelledBits, orElse, tokenBits, after, pairForm, fixedForm, numberedForm, symbolForm, formOf, wideNumber, readPair, readNumber, letterOf, goOn, readLetters, readSpelled, readForm, readToken}
+use Rattle.ax25_token.proofs.Alphabet.{sameCode}
+
+-- ---- a byte, its letter code or none: by the table, and by the lookup's promise
+
+lettersAs : List (ℕ × Option ℕ) → Bool
+lettersAs [] = true
+lettersAs (v ∷ vs) = sameCode (entryCode (getD letterCodes (v .0) 0)) (v .1) && (sameCode (alphaOf (v .0)) (v .1) && lettersAs vs)
+
+lettered : List (ℕ × Option ℕ)
+lettered =
+    (0x20, some 0) ∷ (0x30, some 27) ∷ (0x39, some 36) ∷ (0x41, some 1) ∷ (0x5A, some 26)
+    ∷ (0x2D, none) ∷ (0x61, none) ∷ (0x00, none) ∷ (0x80, none) ∷ (0xFF, none)
+    -- beside the blank, the digits, the letters and the small letters
+    ∷ (0x1F, none) ∷ (0x21, none) ∷ (0x2F, none) ∷ (0x3A, none) ∷ (0x40, none) ∷ (0x5B, none) ∷ (0x60, none) ∷ (0x7A, none) ∷ (0x7B, none)
+    ∷ []
 
 -- ---- call length, call, bits
 
@@ -73,6 +89,6 @@ read =
     ∷ (6, "000001000000111", "none", "")
     ∷ []
 
-examples : (codes coded ≡ true) × (reads read ≡ true)
-unfolding codes codesAs coded reads readsAs read odd num bitsOf valueOf pick between upper same isOneOf starts later position takeBits takeText stops nextVal valFrom valOf callAlphabet long symOf alphaOf wideTokens wideRow pairRows pairTexts fixedRows numberedRows hyphened baseOf behind numberAt twoDigits decimal suffix pairBits pairsBits fixedBits takes numberedBits spell ending plainAp apBits spelledBits orElse tokenBits after pairForm fixedForm numberedForm symbolForm formOf wideNumber readPair readNumber letterOf goOn readLetters readSpelled readForm readToken
-examples = (refl, refl)
+examples : (lettersAs lettered ≡ true) × (codes coded ≡ true) × (reads read ≡ true)
+unfolding lettersAs lettered sameCode entryCode letterCodes codes codesAs coded reads readsAs read odd num bitsOf valueOf pick between upper same isOneOf starts later position takeBits takeText stops nextVal valFrom valOf callAlphabet long symOf alphaOf wideTokens wideRow pairRows pairTexts fixedRows numberedRows hyphened baseOf behind numberAt twoDigits decimal suffix pairBits pairsBits fixedBits takes numberedBits spell ending plainAp apBits spelledBits orElse tokenBits after pairForm fixedForm numberedForm symbolForm formOf wideNumber readPair readNumber letterOf goOn readLetters readSpelled readForm readToken
+examples = (refl, refl, refl)

@@ -10,7 +10,7 @@ ghost use Rattle.laws.specs.Wrote.{Wrote};
 ghost use Rattle.bits.specs.Val.{valOf};
 ghost use Rattle.ax25_token.specs.Call.{textOf};
 ghost use Rattle.ax25_token.specs.Put.{codeView, casedOf, pairedBits, unnamedBits, unpairedBits, Puts};
-ghost use Rattle.ax25_token.specs.Tables.{alphaOf, numberedRows};
+ghost use Rattle.ax25_token.specs.Tables.{alphaOf, letterCodes, numberedRows};
 ghost use Rattle.ax25_token.specs.Token.{baseOf, behind, numberAt, numberedBits, spell, ending, plainAp, apBits, spelledBits, orElse, tokenBits};
 use crate::Call;
 use crate::names::Counted;
@@ -33,16 +33,36 @@ pub enum Code {
     Nothing,
 }
 
-// The code of a letter.
-fn alpha(x: u8) -> Code
+// The letter codes of all bytes, sixteen a row, 255 for none: the inverse of CALL_ALPHABET.
+const CODES: [u8; 256] = *b"\
+    \xFF\xFF\xFF\xFF\xFF\xFF\xFF\xFF\xFF\xFF\xFF\xFF\xFF\xFF\xFF\xFF\
+    \xFF\xFF\xFF\xFF\xFF\xFF\xFF\xFF\xFF\xFF\xFF\xFF\xFF\xFF\xFF\xFF\
+    \x00\xFF\xFF\xFF\xFF\xFF\xFF\xFF\xFF\xFF\xFF\xFF\xFF\xFF\xFF\xFF\
+    \x1B\x1C\x1D\x1E\x1F\x20\x21\x22\x23\x24\xFF\xFF\xFF\xFF\xFF\xFF\
+    \xFF\x01\x02\x03\x04\x05\x06\x07\x08\x09\x0A\x0B\x0C\x0D\x0E\x0F\
+    \x10\x11\x12\x13\x14\x15\x16\x17\x18\x19\x1A\xFF\xFF\xFF\xFF\xFF\
+    \xFF\xFF\xFF\xFF\xFF\xFF\xFF\xFF\xFF\xFF\xFF\xFF\xFF\xFF\xFF\xFF\
+    \xFF\xFF\xFF\xFF\xFF\xFF\xFF\xFF\xFF\xFF\xFF\xFF\xFF\xFF\xFF\xFF\
+    \xFF\xFF\xFF\xFF\xFF\xFF\xFF\xFF\xFF\xFF\xFF\xFF\xFF\xFF\xFF\xFF\
+    \xFF\xFF\xFF\xFF\xFF\xFF\xFF\xFF\xFF\xFF\xFF\xFF\xFF\xFF\xFF\xFF\
+    \xFF\xFF\xFF\xFF\xFF\xFF\xFF\xFF\xFF\xFF\xFF\xFF\xFF\xFF\xFF\xFF\
+    \xFF\xFF\xFF\xFF\xFF\xFF\xFF\xFF\xFF\xFF\xFF\xFF\xFF\xFF\xFF\xFF\
+    \xFF\xFF\xFF\xFF\xFF\xFF\xFF\xFF\xFF\xFF\xFF\xFF\xFF\xFF\xFF\xFF\
+    \xFF\xFF\xFF\xFF\xFF\xFF\xFF\xFF\xFF\xFF\xFF\xFF\xFF\xFF\xFF\xFF\
+    \xFF\xFF\xFF\xFF\xFF\xFF\xFF\xFF\xFF\xFF\xFF\xFF\xFF\xFF\xFF\xFF\
+    \xFF\xFF\xFF\xFF\xFF\xFF\xFF\xFF\xFF\xFF\xFF\xFF\xFF\xFF\xFF\xFF";
+
+// The code of a letter. The table is lent: each use of the constant would copy it.
+fn alpha(codes: &[u8; 256], x: u8) -> Code
+    requires { ⌜ now codes ≡ letterCodes ⌝ }
     ensures { λ r. ⌜ codeView r ≡ alphaOf x ⌝ }
 {
-    match x {
-        32 => Code::Is(0),
-        48..=57 => Code::Is(x as u64 - 21),
-        65..=90 => Code::Is(x as u64 - 64),
-        _ => Code::Nothing,
+    let i = x as usize;
+    let v = codes[i];
+    if v < 37 {
+        return Code::Is(v as u64);
     }
+    Code::Nothing
 }
 
 // A byte, in upper case where that is asked for.
@@ -66,10 +86,11 @@ fn put_letters(c: &[u8], up: bool, out: &mut [u8], at: usize) -> Put
     requires { ⌜ (length (now c) ≤ 16) × (at < 2 ^ 61) ⌝ }
     ensures { λ r. ⌜ Puts (unpack (now (out .entry))) at (spell (map (casedOf up) (now (c .entry)))) (unpack (now (out .exit))) r ⌝ }
 {
+    let codes = &CODES;
     let mut p = at;
     let mut i = 0;
     while i < c.len() {
-        let Code::Is(v) = alpha(cased(c[i], up)) else {
+        let Code::Is(v) = alpha(codes, cased(c[i], up)) else {
             return Put::Bad;
         };
         p = push(out, p, v, 6);

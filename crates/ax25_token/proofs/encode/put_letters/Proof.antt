@@ -10,19 +10,19 @@ use lib.ListN.{length, drop}
 use Rattle.laws.specs.Bits.{unpack}
 use Rattle.ax25_token.specs.declared.encode.Put.{Put}
 use Rattle.ax25_token.specs.Put.{codeView, casedOf, Puts}
-use Rattle.ax25_token.specs.Tables.{alphaOf}
+use Rattle.ax25_token.specs.Tables.{alphaOf, letterCodes}
 use Rattle.ax25_token.specs.Token.{spell}
 use Rattle.ax25_token.proofs.PutLaws.{drop-end, drop-bad, drop-more}
 use Rattle.ax25_token.proofs.encode.put_letters.Statement.{statement}
 use Rattle.ax25_token.proofs.encode.put_letters.Tie as tie
 
 abbrev Inv-loop : tie.InvT-loop
-Inv-loop c up out₀ at p₀ i₀ out p i =
+Inv-loop c up out₀ at codes p₀ i₀ out p i =
     (i ≤ length c) × (length out ≡ length out₀) × (p ≡ at + i * 6)
     × ((d : List Bool) (r : Put) → Puts (unpack out) p (spell (map (casedOf up) (drop i c))) d r → Puts (unpack out₀) at (spell (map (casedOf up) c)) d r)
 
 abbrev μ-loop : tie.MeasureT-loop
-μ-loop c up out₀ at p₀ i₀ out p i = length c - i
+μ-loop c up out₀ at codes p₀ i₀ out p i = length c - i
 
 loop-holds : tie.Need-loop-holds Inv-loop μ-loop
 loop-holds c = (search needs, refl, search needs, λ d r h. h)
@@ -34,7 +34,8 @@ cased-requires : tie.Need-cased-requires Inv-loop μ-loop
 cased-requires c κs = search needs
 
 alpha-requires : tie.Need-alpha-requires Inv-loop μ-loop
-alpha-requires c κs = search needs
+unfolding letterCodes
+alpha-requires c κs = refl
 
 enum-known-v : tie.Need-enum-known-v Inv-loop μ-loop
 enum-known-v c = search needs
