@@ -519,6 +519,58 @@ static void form_refusals(void)
     free(lent);
 }
 
+/* A letter's code: 0 for a blank, 1 to 26 for A to Z, small or not, 27 to 36 for 0 to 9; 37 where it has none. */
+static unsigned letter_code(uint8_t c)
+{
+    if (c == ' ')
+        return 0;
+    if ((c >= 'A' && c <= 'Z') || (c >= 'a' && c <= 'z'))
+        return c % 32u;
+    return c >= '0' && c <= '9' ? c - '0' + 27u : 37;
+}
+
+/* The bits of a call of three letters with these codes: a blank ends it, and the SSID is 0. */
+static size_t push_call(uint8_t *out, size_t at, const unsigned codes[3])
+{
+    for (size_t i = 0; i < 3; i++)
+        at = push(out, at, codes[i], 6);
+    return push(out, at, 0, 10);
+}
+
+/* A call of K, this byte and 1, as the source, or as a digipeater after K1A: coded with the letter's code, or refused. The message has
+   the code of CQ, the calls, and a bit for Text with the seven of A. */
+static void one_letter(uint8_t byte, size_t digis)
+{
+    uint8_t frame[24] = {0x86, 0xA2, 0x40, 0x40, 0x40, 0x40, 0x60, 0x96, 0x62, 0x82, 0x40, 0x40, 0x40, 0x60}, message[12] = {0};
+    const uint8_t call[] = {0x96, byte, 0x62, 0x40, 0x40, 0x40, 0x61, 0x03, 0xF0, 'A'};
+    const unsigned letters[3] = {11, letter_code(byte >> 1), 28}, before[3] = {11, 28, 1};
+    size_t n = 7 + 7 * digis + sizeof call, at = 8 + digis;
+    memcpy(frame + 7 + 7 * digis, call, sizeof call);
+    if (letters[1] == 37) {
+        not_coded(frame, n, XARA_REFUSAL_BAD_CALL, byte);
+        return;
+    }
+    message[0] = (uint8_t)(0x40 + 8 * digis);
+    at = push(message, at, 43, 6);
+    if (digis > 0)
+        at = push_call(message, at, before);
+    at = push(message, push_call(message, at, letters), 'A', 8);
+    uint8_t *lent = copied(frame, n), *out = filled(100);
+    expect(encoded(xara_encode(XARA_AX25, lent, n, out, 100), 0, XARA_TEXT, (at + 7) / 8), "letter", byte);
+    expect(written(out, 100, message, (at + 7) / 8), "letter, its message", byte);
+    expect(memcmp(lent, frame, n) == 0, "letter, its frame", byte);
+    free(lent);
+    free(out);
+}
+
+/* Every byte as a letter of the source and of a digipeater, but for a hyphen, which ends the letters. */
+static void every_letter(void)
+{
+    for (unsigned byte = 0; byte < 256; byte++)
+        for (size_t digis = 0; digis < 2 && byte >> 1 != '-'; digis++)
+            one_letter((uint8_t)byte, digis);
+}
+
 /* Fields outside 3 to 512. */
 static void field_refusals(void)
 {
@@ -956,6 +1008,7 @@ int main(void)
     length_refusals();
     white_space();
     form_refusals();
+    every_letter();
     field_refusals();
     mask_refusals();
     sender_refusals();

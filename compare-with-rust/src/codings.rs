@@ -27,9 +27,11 @@ pub fn coding(r: &mut Random, tally: &mut Tally) {
     both(command, &data, r, tally);
 }
 
-/// The data that is written down: every type, every refusal, every control byte, and every byte at the edges of every text.
+/// The data that is written down: every type, every refusal, every control byte, every letter of a call, and every byte at the edges
+/// of every text.
 pub fn written_down(r: &mut Random, tally: &mut Tally) {
-    for (command, data) in cases::all(r).into_iter().chain(cases::every_control()).chain(white::all()) {
+    let every = cases::every_control().into_iter().chain(cases::every_letter());
+    for (command, data) in cases::all(r).into_iter().chain(every).chain(white::all()) {
         both(command, &data, r, tally);
     }
 }

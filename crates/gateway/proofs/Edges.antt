@@ -1,9 +1,9 @@
--- Document 01's edges marked P, masks of 1 to 7 check bits (02, E11), the lengths of fragments (02, E1) and polled frames (02, E4): four
--- tables that hold of the definitions as a whole.
+-- Document 01's edges marked P, masks of 1 to 7 check bits (02, E11), the lengths of fragments (02, E1), polled frames (02, E4) and letters
+-- of calls (02, E2): five tables that hold of the definitions as a whole.
 -- Assumes nothing.
 use mathlib.Core.Path.{_≡_, refl}
 use mathlib.Core.Bool.{Bool, true, false, _&&_}
-use mathlib.Core.List.{List, [], _∷_, map}
+use mathlib.Core.List.{List, [], _∷_, _++_, map}
 use mathlib.Core.Option.{Option, none, some}
 use Prim.Native.Nat.{ℕ, zero, suc, _+_, _%_}
 use Prim.Native.String.{String}
@@ -37,6 +37,7 @@ use Rattle.kiss.specs.Codec.{codeOf, Summary, summaryOf, Decoded, decodeOf, dec
 
 pub data Edge : Type 0 where
   codes : ℕ → List ℕ → List ℕ → Edge  -- command and data, the message
+  no-message : ℕ → List ℕ → ℕ → Edge  -- command and data, the number that the coder refuses them with
   decodes : List ℕ → ℕ → List ℕ → Edge  -- a message, command and data
   sums : ℕ → List ℕ → ℕ → ℕ → Bool → Edge  -- command and data, the summary: type, digipeaters and UI
   no-sum : ℕ → List ℕ → ℕ → Edge  -- command and data, the number that the summary is refused with
@@ -63,6 +64,21 @@ with-digi-end : List ℕ → List ℕ
 with-digi-end e =
     0x86 ∷ 0xA2 ∷ 0x40 ∷ 0x40 ∷ 0x40 ∷ 0x40 ∷ 0x60 ∷ 0x96 ∷ 0x62 ∷ 0x82 ∷ 0x40 ∷ 0x40 ∷ 0x40 ∷ 0x60
     ∷ 0xAE ∷ 0x92 ∷ 0x88 ∷ 0x8A ∷ 0x62 ∷ 0x40 ∷ 0x63 ∷ e
+
+-- a frame of CQ from a call of these three letters, with 03, F0 and A
+with-source : List ℕ → List ℕ
+with-source c =
+    0x86 ∷ 0xA2 ∷ 0x40 ∷ 0x40 ∷ 0x40 ∷ 0x40 ∷ 0x60 ∷ (c ++ (0x40 ∷ 0x40 ∷ 0x40 ∷ 0x61 ∷ 0x03 ∷ 0xF0 ∷ 0x41 ∷ []))
+
+-- the same from a call of K, this byte and A
+with-letter : ℕ → List ℕ
+with-letter b = with-source (0x96 ∷ b ∷ 0x82 ∷ [])
+
+-- the same from K1A through a digipeater of these four letters
+with-digi : List ℕ → List ℕ
+with-digi c =
+    0x86 ∷ 0xA2 ∷ 0x40 ∷ 0x40 ∷ 0x40 ∷ 0x40 ∷ 0x60 ∷ 0x96 ∷ 0x62 ∷ 0x82 ∷ 0x40 ∷ 0x40 ∷ 0x40 ∷ 0x60
+    ∷ (c ++ (0x40 ∷ 0x40 ∷ 0x61 ∷ 0x03 ∷ 0xF0 ∷ 0x41 ∷ []))
 
 -- the seventeen-byte frame, and its message
 frame : List ℕ
@@ -225,6 +241,32 @@ polled =
     ∷ decodes (0x00 ∷ 0xAC ∷ 0xB7 ∷ 0x01 ∷ 0x00 ∷ 0x04 ∷ 0xF8 ∷ 0x41 ∷ 0x00 ∷ []) Ax25 (with-end (0x13 ∷ 0x70 ∷ 0x41 ∷ []))
     ∷ []
 
+-- "let a table of 256 entries give a byte's letter code or none": a blank, the first and the last digit and letter; small letters, which are
+-- coded as their capitals; and the bytes beside all these, which have no code. A digipeater of the AP form has no small letters.
+pub lettered : List Edge
+lettered =
+    codes Ax25 (with-letter 0x40) (0x40 ∷ 0xAC ∷ 0xB0 ∷ 0x01 ∷ 0x00 ∷ 0x10 ∷ 0x40 ∷ [])
+    ∷ codes Ax25 (with-letter 0x60) (0x40 ∷ 0xAC ∷ 0xB6 ∷ 0xC1 ∷ 0x00 ∷ 0x10 ∷ 0x40 ∷ [])
+    ∷ codes Ax25 (with-letter 0x72) (0x40 ∷ 0xAC ∷ 0xB9 ∷ 0x01 ∷ 0x00 ∷ 0x10 ∷ 0x40 ∷ [])
+    ∷ codes Ax25 (with-letter 0x82) (0x40 ∷ 0xAC ∷ 0xB0 ∷ 0x41 ∷ 0x00 ∷ 0x10 ∷ 0x40 ∷ [])
+    ∷ codes Ax25 (with-letter 0xB4) (0x40 ∷ 0xAC ∷ 0xB6 ∷ 0x81 ∷ 0x00 ∷ 0x10 ∷ 0x40 ∷ [])
+    ∷ codes Ax25 (with-letter 0xF4) (0x40 ∷ 0xAC ∷ 0xB6 ∷ 0x81 ∷ 0x00 ∷ 0x10 ∷ 0x40 ∷ [])
+    ∷ codes Ax25 (with-source (0xD6 ∷ 0x62 ∷ 0xC2 ∷ [])) message
+    ∷ no-message Ax25 (with-letter 0x3E) 4
+    ∷ no-message Ax25 (with-letter 0x42) 4
+    ∷ no-message Ax25 (with-letter 0x5E) 4
+    ∷ no-message Ax25 (with-letter 0x74) 4
+    ∷ no-message Ax25 (with-letter 0x80) 4
+    ∷ no-message Ax25 (with-letter 0xB6) 4
+    ∷ no-message Ax25 (with-letter 0xC0) 4
+    ∷ no-message Ax25 (with-letter 0xF6) 4
+    ∷ no-message Ax25 (with-source (0x96 ∷ 0xBE ∷ 0x62 ∷ [])) 4
+    ∷ no-message Ax25 (with-source (0xD6 ∷ 0xBE ∷ 0x62 ∷ [])) 4
+    ∷ no-message Ax25 (with-digi (0x96 ∷ 0xBE ∷ 0x62 ∷ 0x40 ∷ [])) 4
+    ∷ no-message Ax25 (with-digi (0x82 ∷ 0xA0 ∷ 0xE4 ∷ 0xE6 ∷ [])) 4
+    ∷ codes Ax25 (with-digi (0x82 ∷ 0xA0 ∷ 0xA4 ∷ 0xA6 ∷ [])) (0x48 ∷ 0x56 ∷ 0x5B ∷ 0x80 ∷ 0x80 ∷ 0x1A ∷ 0x24 ∷ 0x98 ∷ 0x08 ∷ 0x20 ∷ [])
+    ∷ []
+
 -- ---- tests of answers
 
 givesMessage : Outcome Coded → List ℕ → Bool
@@ -271,6 +313,7 @@ givesCall (some (t, x ∷ b)) c = false
 
 pub holds : Edge → Bool
 holds (codes command d m) = givesMessage (codeOf command d) m
+holds (no-message command d n) = isRefused (codeOf command d) n
 holds (decodes m command d) = givesData (decodeOf m) command d
 holds (sums command d typ digis ui) = givesSummary (summaryOf command d) typ digis ui
 holds (no-sum command d n) = isRefused (summaryOf command d) n
@@ -302,3 +345,7 @@ booked-holds = refl
 pub polled-holds : all polled ≡ true
 unfolding with-end with-long-end with-digi-end polled givesSummary summaryOf isRefused alike givesMessage givesData holds all odd num bitsOf valueOf fit packN pack unpack pick between upper same isOneOf starts later position trimFront keepOr trimEnd trim takeBits takeText sevens numbers lastOr text7Bits differ counted endOf text7Of valFrom valOf callAlphabet long symOf alphaOf wideTokens wideRow pairRows pairTexts fixedRows numberedRows hyphened baseOf behind numberAt suffix pairBits pairsBits fixedBits takes numberedBits spell ending plainAp apBits spelledBits orElse tokenBits after pairForm fixedForm numberedForm symbolForm formOf wideNumber letterOf goOn readLetters readSpelled readForm readToken white half addrCall double cutTo ssidOf callBytes anyHigh classifyOf splitOff digiFields parseOf typeOf headerOf bodyBytes tokensBits digiBits headBits infoBits frameBits codeParsed encodeOf marked readTokens readDigis readHead readInfo addresses readFrame codeOf decodeMessage decodeSome decodeOf
 polled-holds = refl
+
+pub lettered-holds : all lettered ≡ true
+unfolding with-source with-letter with-digi message lettered isRefused givesMessage holds all odd num bitsOf valueOf fit packN pack unpack pick between upper same isOneOf starts later position trimFront keepOr trimEnd trim sevens lastOr text7Bits valFrom valOf callAlphabet long symOf alphaOf wideTokens wideRow pairRows pairTexts fixedRows numberedRows hyphened baseOf behind numberAt suffix pairBits pairsBits fixedBits takes numberedBits spell ending plainAp apBits spelledBits orElse tokenBits white half addrCall ssidOf anyHigh classifyOf splitOff digiFields parseOf typeOf headerOf bodyBytes tokensBits digiBits headBits infoBits frameBits codeParsed encodeOf codeOf
+lettered-holds = refl

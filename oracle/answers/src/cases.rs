@@ -179,6 +179,30 @@ fn letters() -> Vec<Data> {
     all
 }
 
+/// A digipeater with each byte below 80 as its second letter.
+pub fn relayed() -> Vec<Data> {
+    let with = |c: u8| frame(CQ, K1A, &[(std::str::from_utf8(&[b'K', c, b'1']).expect("bytes below 80"), 0)], b"");
+    (0..0x80).map(with).collect()
+}
+
+/// Every byte in the place of the first, the second, the third and the last letter of destination, source and digipeater, of calls
+/// that are spelled and of the AP form, under both commands.
+pub fn every_letter() -> Vec<Data> {
+    let mut all = Vec::new();
+    for (call, command) in [K1A, APRS, ("LONGEST", 0)].into_iter().flat_map(|call| [(call, 0), (call, 1)]) {
+        let l = 6 + usize::from(command);
+        let whole = [&head(call, call, &[call], l)[..], &UI, b"x"].concat();
+        for place in (0..3).flat_map(|address| [0, 1, 2, l - 1].map(|letter| address * (l + 1) + letter)) {
+            all.extend((0..=0xFF).map(|letter| {
+                let mut data = whole.clone();
+                data[place] = letter;
+                (command, data)
+            }));
+        }
+    }
+    all
+}
+
 /// Every number of digipeaters, the aliases, what is nearly an alias, and a ninth.
 pub fn digipeaters() -> Vec<Data> {
     const NUMBERED: [[&str; 8]; 5] = [

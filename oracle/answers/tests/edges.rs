@@ -85,6 +85,32 @@ fn tokens() {
     assert_eq!(token_decode(&mut Reader::new(&bits.0), 6).unwrap(), "WIDE2-10");
 }
 
+/// The worked examples of 02's request E2 on letter codes: a blank, the digits' and the letters' first and last, and what has none.
+#[test]
+fn letter_codes() {
+    for (letter, code) in [(' ', 0), ('0', 27), ('9', 36), ('A', 1), ('Z', 26)] {
+        assert_eq!(token_bits(&format!("K{letter}")), format!("001011{code:06b}0000000000"), "{letter}");
+    }
+    for letter in ['\0', '\x1F', '!', '/', ':', '@', '[', '_', '`', '{', '\x7F'] {
+        assert!(token_encode(&format!("K{letter}"), 6, &mut Bits::default()).is_err(), "{letter}");
+    }
+    assert!(token_encode("APa", 6, &mut Bits::default()).is_err());
+}
+
+/// A call with an underscore is refused, in the source and in a digipeater. Small letters are coded as capitals, but for a
+/// digipeater that starts with AP, which is refused for them.
+#[test]
+fn a_letter_without_a_code() {
+    for letters in ["96BE62", "D6BE62"] {
+        assert_eq!(encode(0, &bytes(&format!("86A24040404060{letters}4040406103F041"))), Err(4), "{letters}");
+        let heard = format!("86A2404040406096628240404060{letters}4040406103F041");
+        assert_eq!(encode(0, &bytes(&heard)), Err(4), "{letters}");
+    }
+    assert_eq!(coded(0, &bytes("86A24040404060D662C24040406103F041")), MESSAGE);
+    assert_eq!(coded(0, &bytes("82A0E4E64040609662824040406103F041")), "40D124C02DC0400104");
+    assert_eq!(encode(0, &bytes("86A240404040609662824040406082A0E4E640406103F041")), Err(4));
+}
+
 fn token_bits(call: &str) -> String {
     let mut bits = Bits::default();
     token_encode(call, 6, &mut bits).unwrap();

@@ -659,7 +659,7 @@ fn encode(out: &mut String) {
     *out += "\
 # encode CMD ROOM HEX ANSWER: data coded under a command, to an output of ROOM bytes; an answer is TYPE:HEX or refused:N.
 # Every type and refusal, calls and bodies of every odd kind, a text at every place of a bit, drawn ones, frames with a
-# control byte of 03, 13 and beside them, the longest.
+# control byte of 03, 13 and beside them, digipeaters with each byte below 80 as a letter, the longest.
 ";
     let mut r = Random::new(SEED, "encode");
     for (k, (command, data)) in cases::all(&mut r).into_iter().enumerate() {
@@ -671,7 +671,7 @@ fn encode(out: &mut String) {
         let room = message_of(command, &data).map_or(0, |m| m.len() + [0, 0, 0, 7][r.below(4)]);
         encode_line(out, command, &data, room);
     }
-    for (command, data) in cases::polled().into_iter().chain(cases::longest(&mut r)) {
+    for (command, data) in cases::polled().into_iter().chain(cases::relayed()).chain(cases::longest(&mut r)) {
         encode_line(out, command, &data, 5_000);
     }
 }
@@ -726,8 +726,9 @@ fn decode(out: &mut String) {
             }
         }
     }
-    let polled = cases::polled().into_iter().filter_map(|(command, data)| message_of(command, &data));
-    for message in polled.chain(cases::long_messages(&mut r)) {
+    let heard = cases::polled().into_iter().chain(cases::relayed());
+    let messages = heard.filter_map(|(command, data)| message_of(command, &data));
+    for message in messages.chain(cases::long_messages(&mut r)) {
         decode_line(out, &message, data_of(&message).map_or(0, |d| d.len()));
     }
     decode_line(out, &cases::largest(), 45_763);
