@@ -31,6 +31,15 @@ lettered =
     ∷ (0x1F, none) ∷ (0x21, none) ∷ (0x2F, none) ∷ (0x3A, none) ∷ (0x40, none) ∷ (0x5B, none) ∷ (0x60, none) ∷ (0x7A, none) ∷ (0x7B, none)
     ∷ []
 
+-- ---- an entry, the code that it stands for or none
+
+entriesAs : List (ℕ × Option ℕ) → Bool
+entriesAs [] = true
+entriesAs (v ∷ vs) = sameCode (entryCode (v .0)) (v .1) && entriesAs vs
+
+entered : List (ℕ × Option ℕ)
+entered = (0, some 0) ∷ (36, some 36) ∷ (37, none) ∷ (254, none) ∷ (255, none) ∷ []
+
 -- ---- call length, call, bits
 
 codesAs : Option (List Bool) → List ℕ → Bool
@@ -89,6 +98,6 @@ read =
     ∷ (6, "000001000000111", "none", "")
     ∷ []
 
-examples : (lettersAs lettered ≡ true) × (codes coded ≡ true) × (reads read ≡ true)
-unfolding lettersAs lettered sameCode entryCode letterCodes codes codesAs coded reads readsAs read odd num bitsOf valueOf pick between upper same isOneOf starts later position takeBits takeText stops nextVal valFrom valOf callAlphabet long symOf alphaOf wideTokens wideRow pairRows pairTexts fixedRows numberedRows hyphened baseOf behind numberAt twoDigits decimal suffix pairBits pairsBits fixedBits takes numberedBits spell ending plainAp apBits spelledBits orElse tokenBits after pairForm fixedForm numberedForm symbolForm formOf wideNumber readPair readNumber letterOf goOn readLetters readSpelled readForm readToken
-examples = (refl, refl, refl)
+examples : (lettersAs lettered ≡ true) × (entriesAs entered ≡ true) × (codes coded ≡ true) × (reads read ≡ true)
+unfolding lettersAs lettered entriesAs entered sameCode entryCode letterCodes codes codesAs coded reads readsAs read odd num bitsOf valueOf pick between upper same isOneOf starts later position takeBits takeText stops nextVal valFrom valOf callAlphabet long symOf alphaOf wideTokens wideRow pairRows pairTexts fixedRows numberedRows hyphened baseOf behind numberAt twoDigits decimal suffix pairBits pairsBits fixedBits takes numberedBits spell ending plainAp apBits spelledBits orElse tokenBits after pairForm fixedForm numberedForm symbolForm formOf wideNumber readPair readNumber letterOf goOn readLetters readSpelled readForm readToken
+examples = (refl, refl, refl, refl)
