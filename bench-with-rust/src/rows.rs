@@ -53,16 +53,20 @@ pub fn position(table: &mut Table) {
     coding(table, "position", Command::Ax25, position_frame(), Some(POSITION_BAR));
 }
 
-/// What a loaded relay codes letter by letter: calls of eight digipeaters, of six letters, of three and of small ones; calls of
-/// seven letters; and frames refused for a letter that has no code, in the source and in the last digipeater.
+/// What a loaded relay codes letter by letter: the calls of eight digipeaters, of six letters, of three, and of small letters, which
+/// are coded as capitals; calls of seven letters; and frames refused for a letter without a code, in the source and in the last
+/// digipeater.
 pub fn calls(table: &mut Table) {
-    for (kind, call) in [("six letters", b"DB0XYZ"), ("three letters", b"K2B   "), ("small letters", b"db0xyz")] {
-        coding(table, kind, Command::Ax25, digipeated_frame(call), Some(CALLS_BAR));
-    }
-    coding(table, "long text", Command::Ax25Long, long_frame(), Some(CALLS_BAR));
+    let bar = Some(CALLS_BAR);
+    let (six, three, small) = [b"DB0XYZ", b"K2B   ", b"db0xyz"].map(digipeated_frame).into();
+    let message = kiss::encode(Command::Ax25, &small).expect("the input is accepted").bytes;
+    encoding(table, "small letters", Command::Ax25, small.into(), &message, bar);
     for (kind, k) in [("bad source", 1), ("bad last digi", 9)] {
-        refusing(table, kind, Command::Ax25, bad_letter(digipeated_frame(b"DB0XYZ"), k));
+        refusing(table, kind, Command::Ax25, bad_letter(six.clone(), k));
     }
+    coding(table, "six letters", Command::Ax25, six, bar);
+    coding(table, "three letters", Command::Ax25, three, bar);
+    coding(table, "long text", Command::Ax25Long, long_frame(), bar);
 }
 
 /// Some data both ways.

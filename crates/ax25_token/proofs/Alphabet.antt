@@ -62,9 +62,9 @@ all-tested : (below tested 256 ≡ true) × (below back 37 ≡ true)
 unfolding below tested right exact back sameCode entryCode alphaOf callAlphabet letterCodes position later pick
 all-tested = (refl, refl)
 
-pub entries : length letterCodes ≡ 256
+pub entry-count : length letterCodes ≡ 256
 unfolding letterCodes
-entries = refl
+entry-count = refl
 
 -- "each entry is exactly what the lookup promises for that byte"
 pub entry-right : (b : ℕ) → b < 256 → entryCode (getD letterCodes b 0) ≡ alphaOf b

@@ -23,8 +23,8 @@ lettersAs : List (ℕ × Option ℕ) → Bool
 lettersAs [] = true
 lettersAs (v ∷ vs) = sameCode (entryCode (getD letterCodes (v .0) 0)) (v .1) && (sameCode (alphaOf (v .0)) (v .1) && lettersAs vs)
 
-lettered : List (ℕ × Option ℕ)
-lettered =
+letters : List (ℕ × Option ℕ)
+letters =
     (0x20, some 0) ∷ (0x30, some 27) ∷ (0x39, some 36) ∷ (0x41, some 1) ∷ (0x5A, some 26)
     ∷ (0x2D, none) ∷ (0x61, none) ∷ (0x00, none) ∷ (0x80, none) ∷ (0xFF, none)
     -- beside the blank, the digits, the letters and the small letters
@@ -37,8 +37,8 @@ entriesAs : List (ℕ × Option ℕ) → Bool
 entriesAs [] = true
 entriesAs (v ∷ vs) = sameCode (entryCode (v .0)) (v .1) && entriesAs vs
 
-entered : List (ℕ × Option ℕ)
-entered = (0, some 0) ∷ (36, some 36) ∷ (37, none) ∷ (254, none) ∷ (255, none) ∷ []
+entries : List (ℕ × Option ℕ)
+entries = (0, some 0) ∷ (36, some 36) ∷ (37, none) ∷ (254, none) ∷ (255, none) ∷ []
 
 -- ---- call length, call, bits
 
@@ -98,6 +98,6 @@ read =
     ∷ (6, "000001000000111", "none", "")
     ∷ []
 
-examples : (lettersAs lettered ≡ true) × (entriesAs entered ≡ true) × (codes coded ≡ true) × (reads read ≡ true)
-unfolding lettersAs lettered entriesAs entered sameCode entryCode letterCodes codes codesAs coded reads readsAs read odd num bitsOf valueOf pick between upper same isOneOf starts later position takeBits takeText stops nextVal valFrom valOf callAlphabet long symOf alphaOf wideTokens wideRow pairRows pairTexts fixedRows numberedRows hyphened baseOf behind numberAt twoDigits decimal suffix pairBits pairsBits fixedBits takes numberedBits spell ending plainAp apBits spelledBits orElse tokenBits after pairForm fixedForm numberedForm symbolForm formOf wideNumber readPair readNumber letterOf goOn readLetters readSpelled readForm readToken
+examples : (lettersAs letters ≡ true) × (entriesAs entries ≡ true) × (codes coded ≡ true) × (reads read ≡ true)
+unfolding lettersAs letters entriesAs entries sameCode entryCode letterCodes codes codesAs coded reads readsAs read odd num bitsOf valueOf pick between upper same isOneOf starts later position takeBits takeText stops nextVal valFrom valOf callAlphabet long symOf alphaOf wideTokens wideRow pairRows pairTexts fixedRows numberedRows hyphened baseOf behind numberAt twoDigits decimal suffix pairBits pairsBits fixedBits takes numberedBits spell ending plainAp apBits spelledBits orElse tokenBits after pairForm fixedForm numberedForm symbolForm formOf wideNumber readPair readNumber letterOf goOn readLetters readSpelled readForm readToken
 examples = (refl, refl, refl, refl)
