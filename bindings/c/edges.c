@@ -439,11 +439,12 @@ static void length_refusals(void)
     free(out);
 }
 
-/* A frame is refused with this, and nothing is changed. */
+/* A frame is refused with this, before a room that is too short, and nothing is changed. */
 static void not_coded(const uint8_t *frame, size_t n, uint8_t refusal, size_t at)
 {
     uint8_t *lent = copied(frame, n), *out = filled(100);
-    expect(encoded(xara_encode(XARA_AX25, lent, n, out, 100), refusal, 0, 0) && untouched(out, 100), "frame refused", at);
+    for (size_t room = 0; room <= 100; room += 100)
+        expect(encoded(xara_encode(XARA_AX25, lent, n, out, room), refusal, 0, 0) && untouched(out, 100), "frame refused", at);
     expect(memcmp(lent, frame, n) == 0, "frame refused, its bytes", at);
     free(lent);
     free(out);

@@ -5,12 +5,13 @@ use mathlib.Core.Bool.{Bool, true, false, _&&_, false≢true}
 use mathlib.Core.List.{List}
 use mathlib.Core.Option.{Option, none, some}
 use Prim.Native.Nat.{ℕ, _≤_, _<_}
+use native.Mathlib.Omega.{arith}
 use lib.ListN.{length, getD}
 use lib.Dec.{eqb, ltb}
 use borrow.Author.Tests.{eqb-true, lt-ltb, le-ltb}
 use Rattle.laws.specs.Pick.{pick}
 use Rattle.laws.specs.Text.{later, position}
-use Rattle.laws.proofs.Cases.{and-left, and-right}
+use Rattle.laws.proofs.Cases.{pick-true, pick-false, and-left, and-right}
 use Rattle.laws.proofs.TextLaws.{below, at-each}
 use Rattle.ax25_token.specs.Tables.{callAlphabet, alphaOf, letterCodes, entryCode}
 
@@ -32,22 +33,23 @@ same-code (some v) (some w) e = ap some (eqb-true v w e)
 -- ---- what an entry stands for
 
 pub entry-code : (e : ℕ) → e < 37 → entryCode e ≡ some e
-unfolding entryCode pick
-entry-code e h = rw (lt-ltb e 37 h)
+unfolding entryCode
+entry-code e h = pick-true (some e) none (lt-ltb e _ (omega arith))
 
 pub entry-no-code : (e : ℕ) → 37 ≤ e → entryCode e ≡ none
-unfolding entryCode pick
-entry-no-code e h = rw (le-ltb e 37 h)
+unfolding entryCode
+entry-no-code e h = pick-false (some e) none (le-ltb e _ (omega arith))
 
 -- ---- the whole table
 
 abbrev entry : ℕ → ℕ
 entry b = getD letterCodes b 0
 
--- the entry of a byte stands for what the lookup promises; it is the code of that very letter, or 255
+-- the entry of a byte stands for what the lookup promises
 right : ℕ → Bool
 right b = sameCode (entryCode (entry b)) (alphaOf b)
 
+-- it is the code of that very letter, or 255
 exact : ℕ → Bool
 exact b = pick (ltb (entry b) 37) (eqb (getD callAlphabet (entry b) 0) b) (eqb (entry b) 255)
 
