@@ -66,9 +66,19 @@ pub fn frame_with(information: &[u8]) -> Vec<u8> {
     [&header()[..], information].concat()
 }
 
-/// A status report of 80 bytes through eight digipeaters with this call.
-pub fn digipeated_frame(call: &[u8; 6]) -> Vec<u8> {
-    let digis: Vec<u8> = (1..=8).flat_map(|ssid| address(call, ssid, ssid == 8)).collect();
+/// A call as stations have them: one or two letters, a digit and one to three letters, with blanks up to six.
+pub fn station(r: &mut Random) -> [u8; 6] {
+    let lengths = r.between(0, 5, 1)[0] as usize;
+    let (before, after) = (1 + lengths % 2, 1 + lengths / 2);
+    let mut call = [r.between(b'A', b'Z', before), r.between(b'0', b'9', 1), r.between(b'A', b'Z', after)].concat();
+    call.resize(6, b' ');
+    std::array::from_fn(|k| call[k])
+}
+
+/// A status report of 80 bytes through digipeaters with these calls.
+pub fn digipeated_frame(calls: &[[u8; 6]; 8]) -> Vec<u8> {
+    let numbered = (1..=8).zip(calls);
+    let digis: Vec<u8> = numbered.flat_map(|(ssid, call)| address(call, ssid, ssid == 8)).collect();
     [&address(b"APRS  ", 0, false)[..], &address(b"DL1ABC", 9, false), &digis, &[0x03, 0xF0], b">hello!!"].concat()
 }
 

@@ -3,7 +3,7 @@
 
 use crate::inputs::{
     Random, bad_letter, binary_frame, digipeated_frame, frame_with, long_frame, message, polled, position_frame,
-    text_frame,
+    station, text_frame,
 };
 use crate::table::{Table, same};
 use crate::xara::{self, Heard, Receiver};
@@ -58,7 +58,7 @@ pub fn position(table: &mut Table) {
 /// digipeater.
 pub fn calls(table: &mut Table) {
     let bar = Some(CALLS_BAR);
-    let (six, three, small) = [b"DB0XYZ", b"K2B   ", b"db0xyz"].map(digipeated_frame).into();
+    let (six, three, small) = [b"DB0XYZ", b"K2B   ", b"db0xyz"].map(|call| digipeated_frame(&[*call; 8])).into();
     let message = kiss::encode(Command::Ax25, &small).expect("the input is accepted").bytes;
     encoding(table, "small letters", Command::Ax25, small.into(), &message, bar);
     for (kind, k) in [("bad source", 1), ("bad last digi", 9)] {
@@ -67,6 +67,32 @@ pub fn calls(table: &mut Table) {
     coding(table, "six letters", Command::Ax25, six, bar);
     coding(table, "three letters", Command::Ax25, three, bar);
     coding(table, "long text", Command::Ax25Long, long_frame(), bar);
+    stations(table, bar);
+}
+
+/// Reports through eight digipeaters, one after the other, with other calls in each: nothing in them can be foreseen.
+fn stations(table: &mut Table, bar: Option<f64>) {
+    let mut r = Random::new();
+    let report = |_| digipeated_frame(&std::array::from_fn(|_| station(&mut r)));
+    let reports: Rc<[Vec<u8>]> = (0..256).map(report).collect();
+    let (name, bytes) = ("encode stations", reports[0].len());
+    if !table.wants(name, bytes) {
+        return;
+    }
+    let mut out = vec![0; STORE];
+    for data in reports.iter() {
+        let (n, _) = xara::encode(Command::Ax25.byte(), data, &mut out).told().expect("the input is accepted");
+        same(name, &kiss::encode(Command::Ax25, data).expect("the input is accepted").bytes, &out[..n]);
+    }
+    let (theirs, mut k, mut i) = (Rc::clone(&reports), 0, 0);
+    let source = move || {
+        k = (k + 1) % theirs.len();
+        kiss::encode(Command::Ax25, black_box(&theirs[k]))
+    };
+    table.add(name, bytes, bar, source, move || {
+        i = (i + 1) % reports.len();
+        xara::encode(Command::Ax25.byte(), black_box(&reports[i]), black_box(&mut out))
+    });
 }
 
 /// Some data both ways.
@@ -141,7 +167,7 @@ pub fn summaries(table: &mut Table) {
     for (kind, information) in TYPES {
         summary(table, kind, Command::Ax25, polled(frame_with(information)));
     }
-    summary(table, "eight digis", Command::Ax25, digipeated_frame(b"K2B   "));
+    summary(table, "eight digis", Command::Ax25, digipeated_frame(&[*b"K2B   "; 8]));
     summary(table, "long text", Command::Ax25Long, long_frame());
 }
 

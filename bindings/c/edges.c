@@ -560,7 +560,32 @@ static void one_letter(uint8_t byte, size_t digis)
     expect(encoded(xara_encode(XARA_AX25, lent, n, out, 100), 0, XARA_TEXT, (at + 7) / 8), "letter", byte);
     expect(written(out, 100, message, (at + 7) / 8), "letter, its message", byte);
     expect(memcmp(lent, frame, n) == 0, "letter, its frame", byte);
+    encode_rooms(XARA_AX25, XARA_TEXT, frame, n);
     free(lent);
+    free(out);
+}
+
+/* A frame with a letter that has no code is refused for its command, its length, or its end that is missing first; and for the letter
+   before the form of its information. */
+static void letter_order(void)
+{
+    static const char information[] = "!4903.50N/00723.75E>/A=00x234";
+    uint8_t frame[16 + sizeof information] = {0x82, 0xA0, 0xA4, 0xA6, 0x40, 0x40, 0x60, 0x96,
+                                              0xBE, 0x62, 0x40, 0x40, 0x40, 0x61, 0x03, 0xF0};
+    memcpy(frame + 16, information, sizeof information);
+    not_coded(frame, 16 + sizeof information - 1, XARA_REFUSAL_BAD_CALL, 0);
+    not_coded(frame, 16, XARA_REFUSAL_BAD_CALL, 1);
+    for (size_t n = 0; n < 16; n++)
+        not_coded(frame, n, XARA_REFUSAL_SHORT, n);
+    uint8_t *data = filled(XARA_MAX_DATA + 1), *out = filled(100);
+    memcpy(data, frame, 16);
+    expect(encoded(xara_encode(3, data, XARA_MAX_DATA + 1, out, 0), XARA_REFUSAL_COMMAND, 0, 0), "command and letter", 3);
+    for (size_t n = XARA_MAX_DATA; n <= XARA_MAX_DATA + 1; n++) {
+        uint8_t refusal = n > XARA_MAX_DATA ? XARA_REFUSAL_TOO_LONG : XARA_REFUSAL_BAD_CALL;
+        expect(encoded(xara_encode(XARA_AX25, data, n, out, 0), refusal, 0, 0), "length and letter", n);
+    }
+    expect(memcmp(data, frame, 16) == 0 && untouched(data + 16, XARA_MAX_DATA - 15) && untouched(out, 100), "letter's bytes", 0);
+    free(data);
     free(out);
 }
 
@@ -1010,6 +1035,7 @@ int main(void)
     white_space();
     form_refusals();
     every_letter();
+    letter_order();
     field_refusals();
     mask_refusals();
     sender_refusals();

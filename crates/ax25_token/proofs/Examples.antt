@@ -17,11 +17,11 @@ use Rattle.ax25_token.specs.Tables.{callAlphabet, long, symOf, alphaOf, 
 use Rattle.ax25_token.specs.Token.{hyphened, baseOf, behind, numberAt, twoDigits, decimal, suffix, pairBits, pairsBits, fixedBits, takes, numberedBits, spell, ending, plainAp, apBits, spelledBits, orElse, tokenBits, after, pairForm, fixedForm, numberedForm, symbolForm, formOf, wideNumber, readPair, readNumber, letterOf, goOn, readLetters, readSpelled, readForm, readToken}
 use Rattle.ax25_token.proofs.Alphabet.{sameCode}
 
--- ---- a byte, its letter code or none: by the table, and by the lookup's promise
+-- ---- a byte and its letter code, or none; an entry of the table and the code that it stands for, or none
 
-lettersAs : List (ℕ × Option ℕ) → Bool
-lettersAs [] = true
-lettersAs (v ∷ vs) = sameCode (entryCode (getD letterCodes (v .0) 0)) (v .1) && (sameCode (alphaOf (v .0)) (v .1) && lettersAs vs)
+gives : (ℕ → Option ℕ) → List (ℕ × Option ℕ) → Bool
+gives f [] = true
+gives f (v ∷ vs) = sameCode (f (v .0)) (v .1) && gives f vs
 
 letters : List (ℕ × Option ℕ)
 letters =
@@ -31,14 +31,12 @@ letters =
     ∷ (0x1F, none) ∷ (0x21, none) ∷ (0x2F, none) ∷ (0x3A, none) ∷ (0x40, none) ∷ (0x5B, none) ∷ (0x60, none) ∷ (0x7A, none) ∷ (0x7B, none)
     ∷ []
 
--- ---- an entry, the code that it stands for or none
-
-entriesAs : List (ℕ × Option ℕ) → Bool
-entriesAs [] = true
-entriesAs (v ∷ vs) = sameCode (entryCode (v .0)) (v .1) && entriesAs vs
-
 entries : List (ℕ × Option ℕ)
 entries = (0, some 0) ∷ (36, some 36) ∷ (37, none) ∷ (254, none) ∷ (255, none) ∷ []
+
+letter-examples : (gives alphaOf letters ≡ true) × (gives (λ b. entryCode (getD letterCodes b 0)) letters ≡ true) × (gives entryCode entries ≡ true)
+unfolding gives letters entries sameCode alphaOf callAlphabet letterCodes entryCode position later pick
+letter-examples = (refl, refl, refl)
 
 -- ---- call length, call, bits
 
@@ -98,6 +96,6 @@ read =
     ∷ (6, "000001000000111", "none", "")
     ∷ []
 
-examples : (lettersAs letters ≡ true) × (entriesAs entries ≡ true) × (codes coded ≡ true) × (reads read ≡ true)
-unfolding lettersAs letters entriesAs entries sameCode entryCode letterCodes codes codesAs coded reads readsAs read odd num bitsOf valueOf pick between upper same isOneOf starts later position takeBits takeText stops nextVal valFrom valOf callAlphabet long symOf alphaOf wideTokens wideRow pairRows pairTexts fixedRows numberedRows hyphened baseOf behind numberAt twoDigits decimal suffix pairBits pairsBits fixedBits takes numberedBits spell ending plainAp apBits spelledBits orElse tokenBits after pairForm fixedForm numberedForm symbolForm formOf wideNumber readPair readNumber letterOf goOn readLetters readSpelled readForm readToken
-examples = (refl, refl, refl, refl)
+examples : (codes coded ≡ true) × (reads read ≡ true)
+unfolding codes codesAs coded reads readsAs read odd num bitsOf valueOf pick between upper same isOneOf starts later position takeBits takeText stops nextVal valFrom valOf callAlphabet long symOf alphaOf wideTokens wideRow pairRows pairTexts fixedRows numberedRows hyphened baseOf behind numberAt twoDigits decimal suffix pairBits pairsBits fixedBits takes numberedBits spell ending plainAp apBits spelledBits orElse tokenBits after pairForm fixedForm numberedForm symbolForm formOf wideNumber readPair readNumber letterOf goOn readLetters readSpelled readForm readToken
+examples = (refl, refl)

@@ -8,7 +8,7 @@ use mathlib.Core.Option.{Option, none, some}
 use Prim.Native.Nat.{ℕ, zero, suc, _+_, _%_}
 use Prim.Native.String.{String}
 use lib.Bits.{bitAnd}
-use lib.ListN.{length, replicate}
+use lib.ListN.{length, take, replicate}
 use lib.Dec.{leb, eqb}
 use Rattle.laws.specs.Bits.{odd, num, bitsOf, valueOf, fit, packN, pack, unpack}
 use Rattle.laws.specs.Pick.{pick}
@@ -242,7 +242,8 @@ polled =
     ∷ []
 
 -- "let a table of 256 entries give a byte's letter code or none": a blank, the first and the last digit and letter; small letters, which are
--- coded as their capitals; and the bytes beside all these, which have no code. A digipeater of the AP form has no small letters.
+-- coded as their capitals; and the bytes beside all these, which have no code. Command, length and a frame that is cut short are refused
+-- before a letter. A digipeater of the AP form has no small letters.
 pub lettered : List Edge
 lettered =
     codes Ax25 (with-letter 0x40) (0x40 ∷ 0xAC ∷ 0xB0 ∷ 0x01 ∷ 0x00 ∷ 0x10 ∷ 0x40 ∷ [])
@@ -262,6 +263,9 @@ lettered =
     ∷ no-message Ax25 (with-letter 0xF6) 4
     ∷ no-message Ax25 (with-source (0x96 ∷ 0xBE ∷ 0x62 ∷ [])) 4
     ∷ no-message Ax25 (with-source (0xD6 ∷ 0xBE ∷ 0x62 ∷ [])) 4
+    ∷ no-message 3 (with-source (0x96 ∷ 0xBE ∷ 0x62 ∷ [])) 1
+    ∷ no-message Ax25 (with-source (0x96 ∷ 0xBE ∷ 0x62 ∷ []) ++ replicate 4983 0x41) 2
+    ∷ no-message Ax25 (take 15 (with-source (0x96 ∷ 0xBE ∷ 0x62 ∷ []))) 3
     ∷ no-message Ax25 (with-digi (0x96 ∷ 0xBE ∷ 0x62 ∷ 0x40 ∷ [])) 4
     ∷ no-message Ax25 (with-digi (0x82 ∷ 0xA0 ∷ 0xE4 ∷ 0xE6 ∷ [])) 4
     ∷ codes Ax25 (with-digi (0x82 ∷ 0xA0 ∷ 0xA4 ∷ 0xA6 ∷ [])) (0x48 ∷ 0x56 ∷ 0x5B ∷ 0x80 ∷ 0x80 ∷ 0x1A ∷ 0x24 ∷ 0x98 ∷ 0x08 ∷ 0x20 ∷ [])
