@@ -1,4 +1,4 @@
--- Plain frames: one of each type, with none to eight digipeaters that have heard it and that have not.
+-- Plain frames: one of each type, with none to eight digipeaters that have heard it and that have not; and with WIDE2-2, under the mended reading alone.
 -- Assumes nothing.
 use mathlib.Core.Path.{_≡_, refl}
 use mathlib.Core.Bool.{Bool, true, false, _&&_, not}
@@ -14,9 +14,9 @@ use Rattle.laws.specs.Text.{ascii, between, isDigit, same, isOneOf, starts, fil
 use Rattle.laws.proofs.Cases.{and-left, and-right}
 use Rattle.laws.proofs.TextLaws.{below, at-each}
 use Rattle.ax25_token.specs.Token.{twoDigits, decimal, suffix}
-use Rattle.ax25_token.specs.Clean.{cleanLetter, cleanLetters, misread, callText, CleanCall}
+use Rattle.ax25_token.specs.Clean.{cleanLetter, cleanLetters, misread, misreadBy, callText, CleanCall}
 use Rattle.ax25_address.specs.Classify.{anyHigh, marksAt, isPosition, isTimestamped, isMessage, classifyOf}
-use Rattle.ax25_aprs.proofs.Examples.{remark, a-position, a-timestamped, a-message}
+use Rattle.ax25_aprs.proofs.Examples.{remark, a-position, a-timestamped, a-message, to-wide}
 use Rattle.ax25.specs.Plain.{Address, AllClean, addressBytes, addressField, text, binary, body, Plain}
 
 bytes-by : (s : List ℕ) → below (λ i. ltb (getD s i 0) 256) (length s) ≡ true → Bytes s
@@ -24,12 +24,12 @@ bytes-by s t i h = ltb-true (getD s i 0) 256 (at-each (λ i. ltb (getD s i 0) 25
 
 -- ---- clean calls by a computed test
 
-cleanTest : List ℕ → ℕ → Bool
-cleanTest s n = cleanLetters s && (leb 1 (length s) && (leb (length s) 6 && (ltb n 16 && not (isOneOf (callText s n) misread))))
+cleanTest : Bool → List ℕ → ℕ → Bool
+cleanTest mended s n = cleanLetters s && (leb 1 (length s) && (leb (length s) 6 && (ltb n 16 && not (isOneOf (callText s n) (misreadBy mended)))))
 
-clean-by : (s : List ℕ) (n : ℕ) → cleanTest s n ≡ true → CleanCall s n
+clean-by : (mended : Bool) (s : List ℕ) (n : ℕ) → cleanTest mended s n ≡ true → CleanCall mended s n
 unfolding cleanTest
-clean-by s n t =
+clean-by mended s n t =
     let t₁ = and-right (cleanLetters s) _ t in
     let t₂ = and-right (leb 1 (length s)) _ t₁ in
     let t₃ = and-right (leb (length s) 6) _ t₂ in
@@ -38,19 +38,19 @@ clean-by s n t =
       some-letters = leb-true 1 (length s) (and-left (leb 1 (length s)) _ t₁);
       few-letters = leb-true (length s) 6 (and-left (leb (length s) 6) _ t₂);
       small = ltb-true n 16 (and-left (ltb n 16) _ t₃);
-      not-misread = not-true (isOneOf (callText s n) misread) (and-right (ltb n 16) _ t₃);
+      not-misread = not-true (isOneOf (callText s n) (misreadBy mended)) (and-right (ltb n 16) _ t₃);
     }
 
-allTest : List Address → Bool
-allTest [] = true
-allTest (a ∷ v) = cleanTest (a .letters) (a .ssid) && allTest v
+allTest : Bool → List Address → Bool
+allTest mended [] = true
+allTest mended (a ∷ v) = cleanTest mended (a .letters) (a .ssid) && allTest mended v
 
-all-clean : (v : List Address) → allTest v ≡ true → AllClean v
+all-clean : (mended : Bool) (v : List Address) → allTest mended v ≡ true → AllClean mended v
 unfolding allTest
-all-clean [] t = tt
-all-clean (a ∷ v) t =
-    let c = cleanTest (a .letters) (a .ssid) in
-    (clean-by (a .letters) (a .ssid) (and-left c (allTest v) t), all-clean v (and-right c (allTest v) t))
+all-clean mended [] t = tt
+all-clean mended (a ∷ v) t =
+    let c = cleanTest mended (a .letters) (a .ssid) in
+    (clean-by mended (a .letters) (a .ssid) (and-left c (allTest mended v) t), all-clean mended v (and-right c (allTest mended v) t))
 
 abbrev to : List ℕ → ℕ → Bool → Address
 to letters ssid heard = record { letters = letters; ssid = ssid; heard = heard }
@@ -58,7 +58,7 @@ to letters ssid heard = record { letters = letters; ssid = ssid; heard = heard }
 -- ---- frames
 
 -- Text: document 01's frame, CQ from K1A
-pub plain-text : Plain (
+pub plain-text : Plain false (
     0x86 ∷ 0xA2 ∷ 0x40 ∷ 0x40 ∷ 0x40 ∷ 0x40 ∷ 0x60
     ∷ 0x96 ∷ 0x62 ∷ 0x82 ∷ 0x40 ∷ 0x40 ∷ 0x40 ∷ 0x61
     ∷ 0x03 ∷ 0xF0 ∷ ascii "A"
@@ -72,7 +72,7 @@ plain-text =
       info = ascii "A";
       dest-unheard = refl;
       src-unheard = refl;
-      clean = all-clean (to (ascii "CQ") 0 false ∷ to (ascii "K1A") 0 false ∷ []) refl;
+      clean = all-clean false (to (ascii "CQ") 0 false ∷ to (ascii "K1A") 0 false ∷ []) refl;
       few = omega arith;
       octets = bytes-by (ascii "A") refl;
       is = refl;
@@ -80,7 +80,7 @@ plain-text =
     }
 
 -- Binary: a digipeater has heard it
-pub plain-binary : Plain (
+pub plain-binary : Plain false (
     0x86 ∷ 0xA2 ∷ 0x40 ∷ 0x40 ∷ 0x40 ∷ 0x40 ∷ 0x60
     ∷ 0x9C ∷ 0x60 ∷ 0x86 ∷ 0x82 ∷ 0x98 ∷ 0x98 ∷ 0x7E
     ∷ 0xAE ∷ 0x92 ∷ 0x88 ∷ 0x8A ∷ 0x62 ∷ 0x40 ∷ 0xE3
@@ -95,7 +95,7 @@ plain-binary =
       info = 0x80 ∷ 0x00 ∷ 0xFF ∷ [];
       dest-unheard = refl;
       src-unheard = refl;
-      clean = all-clean (to (ascii "CQ") 0 false ∷ to (ascii "N0CALL") 15 false ∷ to (ascii "WIDE1") 1 true ∷ []) refl;
+      clean = all-clean false (to (ascii "CQ") 0 false ∷ to (ascii "N0CALL") 15 false ∷ to (ascii "WIDE1") 1 true ∷ []) refl;
       few = omega arith;
       octets = bytes-by (0x80 ∷ 0x00 ∷ 0xFF ∷ []) refl;
       is = refl;
@@ -115,7 +115,7 @@ eight =
     ∷ to (ascii "GATE") 7 false
     ∷ []
 
-pub plain-position : Plain (
+pub plain-position : Plain false (
     0x82 ∷ 0xA0 ∷ 0xA4 ∷ 0xA6 ∷ 0x40 ∷ 0x40 ∷ 0x60
     ∷ 0x96 ∷ 0x62 ∷ 0x82 ∷ 0x40 ∷ 0x40 ∷ 0x40 ∷ 0x60
     ∷ 0xAE ∷ 0x92 ∷ 0x88 ∷ 0x8A ∷ 0x62 ∷ 0x40 ∷ 0xE2
@@ -137,7 +137,7 @@ plain-position =
       info = ascii "!4730.12N/12217.56W>" ++ remark;
       dest-unheard = refl;
       src-unheard = refl;
-      clean = all-clean (to (ascii "APRS") 0 false ∷ to (ascii "K1A") 0 false ∷ eight) refl;
+      clean = all-clean false (to (ascii "APRS") 0 false ∷ to (ascii "K1A") 0 false ∷ eight) refl;
       few = omega arith;
       octets = bytes-by (ascii "!4730.12N/12217.56W>" ++ remark) refl;
       is = refl;
@@ -145,7 +145,7 @@ plain-position =
     }
 
 -- TimestampedPosition: no digipeater
-pub plain-timestamped : Plain (
+pub plain-timestamped : Plain false (
     0x82 ∷ 0xA0 ∷ 0xA4 ∷ 0xA6 ∷ 0x40 ∷ 0x40 ∷ 0x60
     ∷ 0x9C ∷ 0x60 ∷ 0x86 ∷ 0x82 ∷ 0x98 ∷ 0x98 ∷ 0x7F
     ∷ 0x03 ∷ 0xF0 ∷ ascii "@123456h4730.12N/12217.56W>" ++ remark
@@ -159,7 +159,7 @@ plain-timestamped =
       info = ascii "@123456h4730.12N/12217.56W>" ++ remark;
       dest-unheard = refl;
       src-unheard = refl;
-      clean = all-clean (to (ascii "APRS") 0 false ∷ to (ascii "N0CALL") 15 false ∷ []) refl;
+      clean = all-clean false (to (ascii "APRS") 0 false ∷ to (ascii "N0CALL") 15 false ∷ []) refl;
       few = omega arith;
       octets = bytes-by (ascii "@123456h4730.12N/12217.56W>" ++ remark) refl;
       is = refl;
@@ -167,7 +167,7 @@ plain-timestamped =
     }
 
 -- Message: the digipeater has not heard it
-pub plain-message : Plain (
+pub plain-message : Plain false (
     0x82 ∷ 0xA0 ∷ 0xA4 ∷ 0xA6 ∷ 0x40 ∷ 0x40 ∷ 0x60
     ∷ 0x96 ∷ 0x62 ∷ 0x82 ∷ 0x40 ∷ 0x40 ∷ 0x40 ∷ 0x60
     ∷ 0xAE ∷ 0x92 ∷ 0x88 ∷ 0x8A ∷ 0x64 ∷ 0x40 ∷ 0x63
@@ -182,9 +182,56 @@ plain-message =
       info = ascii ":N0CALL-12:VARA HF /A=001234";
       dest-unheard = refl;
       src-unheard = refl;
-      clean = all-clean (to (ascii "APRS") 0 false ∷ to (ascii "K1A") 0 false ∷ to (ascii "WIDE2") 1 false ∷ []) refl;
+      clean = all-clean false (to (ascii "APRS") 0 false ∷ to (ascii "K1A") 0 false ∷ to (ascii "WIDE2") 1 false ∷ []) refl;
       few = omega arith;
       octets = bytes-by (ascii ":N0CALL-12:VARA HF /A=001234") refl;
       is = refl;
       kind = body a-message;
+    }
+
+-- ---- frames that are plain under the mended reading alone (02, E5)
+
+-- Text by way of the digipeater WIDE2-2
+pub plain-wide : Plain true (
+    0x86 ∷ 0xA2 ∷ 0x40 ∷ 0x40 ∷ 0x40 ∷ 0x40 ∷ 0x60
+    ∷ 0x96 ∷ 0x62 ∷ 0x82 ∷ 0x40 ∷ 0x40 ∷ 0x40 ∷ 0x62
+    ∷ 0xAE ∷ 0x92 ∷ 0x88 ∷ 0x8A ∷ 0x64 ∷ 0x40 ∷ 0x65
+    ∷ 0x03 ∷ 0xF0 ∷ ascii "A"
+    )
+unfolding allTest cleanTest cleanLetters cleanLetter callText suffix decimal twoDigits isOneOf same addressField addressBytes filled pick starts below classifyOf anyHigh marksAt isPosition isTimestamped isMessage isDigit between
+plain-wide =
+    record {
+      dest = to (ascii "CQ") 0 false;
+      src = to (ascii "K1A") 1 false;
+      digis = to (ascii "WIDE2") 2 false ∷ [];
+      info = ascii "A";
+      dest-unheard = refl;
+      src-unheard = refl;
+      clean = all-clean true (to (ascii "CQ") 0 false ∷ to (ascii "K1A") 1 false ∷ to (ascii "WIDE2") 2 false ∷ []) refl;
+      few = omega arith;
+      octets = bytes-by (ascii "A") refl;
+      is = refl;
+      kind = text refl;
+    }
+
+-- a Message to WIDE2-2
+pub plain-wide-message : Plain true (
+    0x82 ∷ 0xA0 ∷ 0xA4 ∷ 0xA6 ∷ 0x40 ∷ 0x40 ∷ 0x60
+    ∷ 0x96 ∷ 0x62 ∷ 0x82 ∷ 0x40 ∷ 0x40 ∷ 0x40 ∷ 0x61
+    ∷ 0x03 ∷ 0xF0 ∷ ascii ":WIDE2-2  :hi"
+    )
+unfolding allTest cleanTest cleanLetters cleanLetter callText suffix decimal twoDigits isOneOf same misread addressField addressBytes filled pick starts below classifyOf anyHigh marksAt isPosition isTimestamped isMessage isDigit between
+plain-wide-message =
+    record {
+      dest = to (ascii "APRS") 0 false;
+      src = to (ascii "K1A") 0 false;
+      digis = [];
+      info = ascii ":WIDE2-2  :hi";
+      dest-unheard = refl;
+      src-unheard = refl;
+      clean = all-clean true (to (ascii "APRS") 0 false ∷ to (ascii "K1A") 0 false ∷ []) refl;
+      few = omega arith;
+      octets = bytes-by (ascii ":WIDE2-2  :hi") refl;
+      is = refl;
+      kind = body to-wide;
     }

@@ -64,7 +64,7 @@ record Own (typ : ℕ) : Type 0 where
   is-known : known typ ≡ true
   more : 2 ≤ typ
 
-own : {typ : ℕ} {d : List ℕ} → PlainBody typ d → Own typ
+own : {mended : Bool} {typ : ℕ} {d : List ℕ} → PlainBody mended typ d → Own typ
 own (position s x) = record { not-text = refl; not-bytes = refl; not-third = refl; is-known = refl; more = omega arith }
 own (timestamped t s x y) = record { not-text = refl; not-bytes = refl; not-third = refl; is-known = refl; more = omega arith }
 own (message c k s x y) = record { not-text = refl; not-bytes = refl; not-third = refl; is-known = refl; more = omega arith }
@@ -72,19 +72,19 @@ own (message c k s x y) = record { not-text = refl; not-bytes = refl; not-third 
 -- ---- a plain frame
 
 -- the frame is coded, never refused, and read back
-pub record FrameBack (d : List ℕ) : Type 0 where
+pub record FrameBack (mended : Bool) (d : List ℕ) : Type 0 where
   pub header : ℕ
   pub rest : List ℕ
   pub typ : ℕ
   pub coded : encodeOf Ax25 d ≡ answer (record { bytes = header ∷ rest; typ = typ })
   pub ax25 : header / 16 % 4 ≡ Ax25
-  pub back : readFrame 6 header (unpack rest) ≡ some d
+  pub back : readFrame mended 6 header (unpack rest) ≡ some d
 
 -- zeros up to a whole byte
 zeros : (b : List Bool) → (z : ℕ) × (z < 8) × (unpack (pack b) ≡ b ++ replicate z false)
 zeros b = ((length b + 7) / 8 * 8 - length b, omega arith, unpack-pack b)
 
-module _ {d : List ℕ} (f : Plain d) where
+module _ {mended : Bool} {d : List ℕ} (f : Plain mended d) where
   abbrev ap? : Bool
   ap? = starts (ascii "AP") (callText (f .dest .letters) (f .dest .ssid))
 
@@ -100,7 +100,7 @@ module _ {d : List ℕ} (f : Plain d) where
     rest : List Bool
     coded-bits : frameBits 6 (plainParsed f) typ out ≡ answer all
     unpacked : unpack (pack all) ≡ out ++ rest
-    read : readInfo 6 typ (out ++ rest) rest ≡ some (f .info)
+    read : readInfo mended 6 typ (out ++ rest) rest ≡ some (f .info)
 
   header-is : Header (length (f .digis)) head
   unfolding headerOf pick
@@ -112,20 +112,20 @@ module _ {d : List ℕ} (f : Plain d) where
   addresses-is =
       let calls : List (List ℕ) = callText (f .dest .letters) (f .dest .ssid) ∷ callText (f .src .letters) (f .src .ssid) ∷ texts (f .digis) in
       ap₂ (λ (a b : Bool). addresses 6 calls (a ∷ b ∷ heards (f .digis))) (sym (f .dest-unheard)) (sym (f .src-unheard))
-      ∙ addresses-back (f .dest ∷ f .src ∷ f .digis) (f .clean)
+      ∙ addresses-back mended (f .dest ∷ f .src ∷ f .digis) (f .clean)
 
-  module _ (b : HeadBack (f .dest) (f .src) (f .digis) typ (plainParsed f)) (y : Body (b .out)) where
+  module _ (b : HeadBack mended (f .dest) (f .src) (f .digis) typ (plainParsed f)) (y : Body (b .out)) where
     frame-coded : encodeOf Ax25 d ≡ answer (record { bytes = head ∷ pack (y .all); typ = typ })
     unfolding encodeOf codeParsed typeOf pick
     frame-coded = rw (plain-parsed f, and-true ap?, b .is, y .coded-bits)
 
-    frame-read : readFrame 6 head (unpack (pack (y .all))) ≡ some d
+    frame-read : readFrame mended 6 head (unpack (pack (y .all))) ≡ some d
     unfolding readFrame pick
     frame-read =
         rw (header-is .count, y .unpacked, b .back (y .rest), y .read, header-is .ui)
         (ap (λ (a : List ℕ). some (a ++ (0x03 ∷ 0xF0 ∷ f .info))) addresses-is ∙ ap some (sym (f .is)))
 
-    with-parts : FrameBack d
+    with-parts : FrameBack mended d
     with-parts =
         record {
           header = head;
@@ -137,8 +137,8 @@ module _ {d : List ℕ} (f : Plain d) where
         }
 
   -- the head, of a type that there is
-  head-is : known typ ≡ true → HeadBack (f .dest) (f .src) (f .digis) typ (plainParsed f)
-  head-is k = head-back (f .dest) (f .src) (f .digis) typ (plainParsed f) (f .clean) (type-fits ap? (f .info), k) refl refl refl refl
+  head-is : known typ ≡ true → HeadBack mended (f .dest) (f .src) (f .digis) typ (plainParsed f)
+  head-is k = head-back mended (f .dest) (f .src) (f .digis) typ (plainParsed f) (f .clean) (type-fits ap? (f .info), k) refl refl refl refl
 
   text-body : typ ≡ Text → (out : List Bool) → Body out
   unfolding frameBits infoBits readInfo bodyBytes pick
@@ -168,11 +168,11 @@ module _ {d : List ℕ} (f : Plain d) where
         read = rw (e, whole) (ap some (packN-front (f .info) (replicate (z .0) false) (f .octets)));
       }
 
-  own-body : PlainBody typ (f .info) → (out : List Bool) → Body out
+  own-body : PlainBody mended typ (f .info) → (out : List Bool) → Body out
   unfolding frameBits infoBits readInfo bodyBytes pick
   own-body x out =
       let o = own x in
-      let y = body-back 6 (omega arith) (omega arith) x in
+      let y = body-back mended 6 (omega arith) (omega arith) x in
       let z = zeros (out ++ y .coded) in
       record {
         all = out ++ y .coded;
@@ -182,13 +182,13 @@ module _ {d : List ℕ} (f : Plain d) where
         read = rw (o .not-text, o .not-bytes, o .not-third) (y .is-read (z .0));
       }
 
-  pub frame-back : FrameBack d
+  pub frame-back : FrameBack mended d
   frame-back = cases (rw (← starts-call (f .dest .letters) (f .dest .ssid)) at (f .kind))
     where
-      with-body : known typ ≡ true → ((out : List Bool) → Body out) → FrameBack d
+      with-body : known typ ≡ true → ((out : List Bool) → Body out) → FrameBack mended d
       with-body k y = let b = head-is k in with-parts b (y (b .out))
 
-      cases : PlainInfo typ (f .info) → FrameBack d
+      cases : PlainInfo mended typ (f .info) → FrameBack mended d
       cases (text e) = with-body (ap known e) (text-body e)
       cases (binary e) = with-body (ap known e) (binary-body e)
       cases (body x) = with-body (own x .is-known) (own-body x)

@@ -74,22 +74,22 @@ record Written (written : Option (List Bool)) (read : List Bool → Option (List
   is : written ≡ some out
   back : (rest : List Bool) → read (out ++ rest) ≡ some (calls, rest)
 
-tokens-back : (v : List Address) → AllClean v → Written (tokensBits 6 (texts v)) (readTokens 6 (length v)) (texts v)
+tokens-back : (mended : Bool) (v : List Address) → AllClean mended v → Written (tokensBits 6 (texts v)) (readTokens mended 6 (length v)) (texts v)
 unfolding tokensBits readTokens texts
-tokens-back [] ok = record { out = []; is = refl; back = λ rest. refl }
-tokens-back (a ∷ v) ok =
-    let t = token-back (a .letters) (a .ssid) (ok .0) 6 (omega arith) in
-    let r = tokens-back v (ok .1) in
+tokens-back mended [] ok = record { out = []; is = refl; back = λ rest. refl }
+tokens-back mended (a ∷ v) ok =
+    let t = token-back mended (a .letters) (a .ssid) (ok .0) 6 (omega arith) in
+    let r = tokens-back mended v (ok .1) in
     record {
       out = t .bits ++ r .out;
       is = rw (t .coded, r .is);
       back = λ rest. rw (append-assoc (t .bits) (r .out) rest, t .read (r .out ++ rest), r .back rest);
     }
 
-alias-back : (c : List ℕ) (cs : List (List ℕ)) → 0 < aliasOf (c ∷ cs)
-    → Written (some (true ∷ bitsOf 3 (aliasOf (c ∷ cs)))) (readAliased 6 (length (c ∷ cs))) (c ∷ cs)
+alias-back : (mended : Bool) (c : List ℕ) (cs : List (List ℕ)) → 0 < aliasOf (c ∷ cs)
+    → Written (some (true ∷ bitsOf 3 (aliasOf (c ∷ cs)))) (readAliased mended 6 (length (c ∷ cs))) (c ∷ cs)
 unfolding aliasOf readAliased readAlias aliases pick
-alias-back c cs h =
+alias-back mended c cs h =
     let r = aliased 1 aliases (c ∷ cs) h in
     let k = aliasFrom 1 aliases (c ∷ cs) in
     let i : k % 2 ^ 3 ≡ suc (r .i) = omega (arith, r .number, r .small) in
@@ -99,17 +99,17 @@ alias-back c cs h =
       back = λ rest. rw (take-bits 3 k rest, i, r .is-named, r .calls);
     }
 
-digis-back : (ap : Bool) (v : List Address) → AllClean v → Written (digiBits 6 ap (texts v)) (readDigis 6 ap (length v)) (texts v)
+digis-back : (mended ap : Bool) (v : List Address) → AllClean mended v → Written (digiBits 6 ap (texts v)) (readDigis mended 6 ap (length v)) (texts v)
 unfolding digiBits readDigis texts pick
-digis-back ap [] ok = record { out = []; is = refl; back = λ rest. refl }
-digis-back ap (a ∷ v) ok = cases ap (ltb 0 (aliasOf (texts (a ∷ v)))) refl
+digis-back mended ap [] ok = record { out = []; is = refl; back = λ rest. refl }
+digis-back mended ap (a ∷ v) ok = cases ap (ltb 0 (aliasOf (texts (a ∷ v)))) refl
   where
-    r : Written (tokensBits 6 (texts (a ∷ v))) (readTokens 6 (length (a ∷ v))) (texts (a ∷ v))
-    r = tokens-back (a ∷ v) ok
+    r : Written (tokensBits 6 (texts (a ∷ v))) (readTokens mended 6 (length (a ∷ v))) (texts (a ∷ v))
+    r = tokens-back mended (a ∷ v) ok
 
-    cases : (x y : Bool) → ltb 0 (aliasOf (texts (a ∷ v))) ≡ y → Written (digiBits 6 x (texts (a ∷ v))) (readDigis 6 x (length (a ∷ v))) (texts (a ∷ v))
+    cases : (x y : Bool) → ltb 0 (aliasOf (texts (a ∷ v))) ≡ y → Written (digiBits 6 x (texts (a ∷ v))) (readDigis mended 6 x (length (a ∷ v))) (texts (a ∷ v))
     cases true true e =
-        let q = alias-back (callText (a .letters) (a .ssid)) (texts v) (ltb-true 0 (aliasOf (texts (a ∷ v))) e) in
+        let q = alias-back mended (callText (a .letters) (a .ssid)) (texts v) (ltb-true 0 (aliasOf (texts (a ∷ v))) e) in
         record {
           out = q .out;
           is = rw e (q .is);
@@ -129,7 +129,7 @@ digis-back ap (a ∷ v) ok = cases ap (ltb 0 (aliasOf (texts (a ∷ v)))) refl
 abbrev pub Fits : Bool → ℕ → Type 0
 Fits ap typ = (typ < 2 ^ typeWidth ap) × (known typ ≡ true)
 
-module _ (dest src : Address) (digis : List Address) (typ : ℕ) where
+module _ (mended : Bool) (dest src : Address) (digis : List Address) (typ : ℕ) where
   abbrev to : List ℕ
   to = callText (dest .letters) (dest .ssid)
 
@@ -143,16 +143,16 @@ module _ (dest src : Address) (digis : List Address) (typ : ℕ) where
   pub record HeadBack (r : Parsed) : Type 0 where
     pub out : List Bool
     pub is : headBits 6 r typ ≡ some out
-    pub back : (rest : List Bool) → readHead 6 (length digis) (out ++ rest) ≡ some (headOf, rest)
+    pub back : (rest : List Bool) → readHead mended 6 (length digis) (out ++ rest) ≡ some (headOf, rest)
 
-  pub head-back : (r : Parsed) → AllClean (dest ∷ src ∷ digis) → Fits (starts (ascii "AP") to) typ
+  pub head-back : (r : Parsed) → AllClean mended (dest ∷ src ∷ digis) → Fits (starts (ascii "AP") to) typ
       → r .dest ≡ to → r .src ≡ from → r .digis ≡ texts digis → r .heard ≡ heards digis → HeadBack r
   unfolding headBits readHead pick
   head-back r ok fit ed es ev eh =
       let ap = starts (ascii "AP") to in
-      let d = token-back (dest .letters) (dest .ssid) (ok .0) 6 (omega arith) in
-      let s = token-back (src .letters) (src .ssid) (ok .1 .0) 6 (omega arith) in
-      let v = digis-back ap digis (ok .1 .1) in
+      let d = token-back mended (dest .letters) (dest .ssid) (ok .0) 6 (omega arith) in
+      let s = token-back mended (src .letters) (src .ssid) (ok .1 .0) 6 (omega arith) in
+      let v = digis-back mended ap digis (ok .1 .1) in
       let t = bitsOf (typeWidth ap) typ in
       record {
         out = heards digis ++ (d .bits ++ (s .bits ++ (v .out ++ t)));
@@ -163,7 +163,7 @@ module _ (dest src : Address) (digis : List Address) (typ : ℕ) where
 
 -- ---- the address fields
 
-pub addresses-back : (v : List Address) → AllClean v → addresses 6 (texts v) (heards v) ≡ addressField v
+pub addresses-back : (mended : Bool) (v : List Address) → AllClean mended v → addresses 6 (texts v) (heards v) ≡ addressField v
 unfolding addresses addressField texts heards
-addresses-back [] ok = refl
-addresses-back (a ∷ v) ok = rw (empty-texts v, address-marked a (ok .0) (isEmpty v), addresses-back v (ok .1))
+addresses-back mended [] ok = refl
+addresses-back mended (a ∷ v) ok = rw (empty-texts v, address-marked mended a (ok .0) (isEmpty v), addresses-back mended v (ok .1))

@@ -16,13 +16,14 @@ use Rattle.laws.specs.Bits.{odd}
 use Rattle.laws.specs.Pick.{pick}
 use Rattle.laws.specs.Text.{upper, filled}
 use Rattle.ax25_token.specs.Clean.{cleanLetters, callText, CleanCall}
-use Rattle.ax25_token.proofs.CleanLaws.{clean-lt, clean-first, clean-rest, call-upper}
+use Rattle.ax25_token.proofs.CleanLaws.{clean-lt, clean-first, clean-rest, call-upper, clean-both}
 use Rattle.ax25_address.specs.Address.{addrCall, heardIn, double, cutTo, callBytes}
 use Rattle.ax25_address.specs.Parse.{Parsed, digiFields, parseOf}
 use Rattle.ax25_address.proofs.AddressLaws.{addressOf, cut-filled, length-cut, field-call, call-field}
 use Rattle.ax25_address.proofs.ParseLaws.{split-off}
+use Rattle.ax25_aprs.proofs.BodyBack.{body-both}
 use Rattle.ax25.specs.Decode.{isEmpty, marked}
-use Rattle.ax25.specs.Plain.{Address, AllClean, twice, addressBytes, addressField, Plain}
+use Rattle.ax25.specs.Plain.{Address, AllClean, twice, addressBytes, addressField, PlainInfo, text, binary, body, Plain}
 
 -- ---- a number's last bit
 
@@ -83,7 +84,7 @@ doubles (x ∷ b) k e =
     let s : x * 2 % 256 ≡ x * 2 = omega (arith, clean-lt x (clean-first x b e)) in
     ap₂ (λ (u : ℕ) (us : List ℕ). u ∷ us) s (doubles b k (clean-rest x b e))
 
-module _ (a : Address) (ok : CleanCall (a .letters) (a .ssid)) where
+module _ (mended : Bool) (a : Address) (ok : CleanCall mended (a .letters) (a .ssid)) where
   field-is : (last : Bool) → addressBytes a last ≡ addressOf 6 (a .letters) (ssidByte (a .ssid) (a .heard) last)
   unfolding addressBytes addressOf filled
   field-is last =
@@ -151,33 +152,33 @@ empty-texts [] = refl
 empty-texts (a ∷ v) = refl
 
 -- the further fields, behind an SSID byte b
-digis-parsed : (v : List Address) (k b : ℕ) (rest : List ℕ) → AllClean v → length v ≤ k → odd b ≡ isEmpty v
+digis-parsed : (mended : Bool) (v : List Address) (k b : ℕ) (rest : List ℕ) → AllClean mended v → length v ≤ k → odd b ≡ isEmpty v
     → digiFields 6 k b (addressField v ++ rest) ≡ some (fields v, rest)
 unfolding digiFields addressField fields pick
-digis-parsed [] zero b rest ok l e = refl
-digis-parsed [] (suc k) b rest ok l e = rw e
-digis-parsed (a ∷ v) zero b rest ok l e = absurd (not-suc-le-zero l)
-digis-parsed (a ∷ v) (suc k) b rest ok l e =
+digis-parsed mended [] zero b rest ok l e = refl
+digis-parsed mended [] (suc k) b rest ok l e = rw e
+digis-parsed mended (a ∷ v) zero b rest ok l e = absurd (not-suc-le-zero l)
+digis-parsed mended (a ∷ v) (suc k) b rest ok l e =
     let f = addressBytes a (isEmpty v) in
-    rw (e, append-assoc f (addressField v) rest, split-off 7 f (addressField v ++ rest) (address-length a (ok .0) (isEmpty v)), digis-parsed v k (getD f 6 0) rest (ok .1) (le-of-suc-le-suc l) (address-last a (ok .0) (isEmpty v)))
+    rw (e, append-assoc f (addressField v) rest, split-off 7 f (addressField v ++ rest) (address-length mended a (ok .0) (isEmpty v)), digis-parsed mended v k (getD f 6 0) rest (ok .1) (le-of-suc-le-suc l) (address-last mended a (ok .0) (isEmpty v)))
 
-heards-in : (v : List Address) → AllClean v → map (heardIn 6) (fields v) ≡ heards v
+heards-in : (mended : Bool) (v : List Address) → AllClean mended v → map (heardIn 6) (fields v) ≡ heards v
 unfolding fields heards
-heards-in [] ok = refl
-heards-in (a ∷ v) ok = ap₂ (λ (x : Bool) (xs : List Bool). x ∷ xs) (address-heard a (ok .0) (isEmpty v)) (heards-in v (ok .1))
+heards-in mended [] ok = refl
+heards-in mended (a ∷ v) ok = ap₂ (λ (x : Bool) (xs : List Bool). x ∷ xs) (address-heard mended a (ok .0) (isEmpty v)) (heards-in mended v (ok .1))
 
-texts-of : (v : List Address) → AllClean v → map (addrCall 6) (fields v) ≡ texts v
+texts-of : (mended : Bool) (v : List Address) → AllClean mended v → map (addrCall 6) (fields v) ≡ texts v
 unfolding fields texts
-texts-of [] ok = refl
-texts-of (a ∷ v) ok = ap₂ (λ (x : List ℕ) (xs : List (List ℕ)). x ∷ xs) (address-text a (ok .0) (isEmpty v)) (texts-of v (ok .1))
+texts-of mended [] ok = refl
+texts-of mended (a ∷ v) ok = ap₂ (λ (x : List ℕ) (xs : List (List ℕ)). x ∷ xs) (address-text mended a (ok .0) (isEmpty v)) (texts-of mended v (ok .1))
 
-text-upper : (a : Address) (last : Bool) → CleanCall (a .letters) (a .ssid) → map upper (addrCall 6 (addressBytes a last)) ≡ callText (a .letters) (a .ssid)
-text-upper a last ok = ap (map upper) (address-text a ok last) ∙ call-upper (a .letters) (a .ssid) (ok .clean) (ok .small)
+text-upper : (mended : Bool) (a : Address) (last : Bool) → CleanCall mended (a .letters) (a .ssid) → map upper (addrCall 6 (addressBytes a last)) ≡ callText (a .letters) (a .ssid)
+text-upper mended a last ok = ap (map upper) (address-text mended a ok last) ∙ call-upper (a .letters) (a .ssid) (ok .clean) (ok .small)
 
 -- ---- the frame
 
 -- what a plain frame is parsed into
-abbrev pub plainParsed : {d : List ℕ} → Plain d → Parsed
+abbrev pub plainParsed : {mended : Bool} {d : List ℕ} → Plain mended d → Parsed
 plainParsed f =
     record {
       dest = callText (f .dest .letters) (f .dest .ssid);
@@ -189,11 +190,39 @@ plainParsed f =
       info = f .info;
     }
 
-pub plain-parsed : {d : List ℕ} (f : Plain d) → parseOf 6 d ≡ some (plainParsed f)
+pub plain-parsed : {mended : Bool} {d : List ℕ} (f : Plain mended d) → parseOf 6 d ≡ some (plainParsed f)
 unfolding parseOf addressField
-plain-parsed {d} f =
+plain-parsed {mended} {d} f =
     let a = addressBytes (f .dest) false in
     let b = addressBytes (f .src) (isEmpty (f .digis)) in
     let v = addressField (f .digis) in
     let rest : List ℕ = 0x03 ∷ 0xF0 ∷ f .info in
-    rw (f .is, append-assoc a (b ++ v) rest, append-assoc b v rest, split-off 7 a (b ++ (v ++ rest)) (address-length (f .dest) (f .clean .0) false), split-off 7 b (v ++ rest) (address-length (f .src) (f .clean .1 .0) (isEmpty (f .digis))), digis-parsed (f .digis) 8 (getD b 6 0) rest (f .clean .1 .1) (f .few) (address-last (f .src) (f .clean .1 .0) (isEmpty (f .digis))), split-off 2 (0x03 ∷ 0xF0 ∷ []) (f .info) refl, text-upper (f .dest) false (f .clean .0), text-upper (f .src) (isEmpty (f .digis)) (f .clean .1 .0), texts-of (f .digis) (f .clean .1 .1), heards-in (f .digis) (f .clean .1 .1))
+    rw (f .is, append-assoc a (b ++ v) rest, append-assoc b v rest, split-off 7 a (b ++ (v ++ rest)) (address-length mended (f .dest) (f .clean .0) false), split-off 7 b (v ++ rest) (address-length mended (f .src) (f .clean .1 .0) (isEmpty (f .digis))), digis-parsed mended (f .digis) 8 (getD b 6 0) rest (f .clean .1 .1) (f .few) (address-last mended (f .src) (f .clean .1 .0) (isEmpty (f .digis))), split-off 2 (0x03 ∷ 0xF0 ∷ []) (f .info) refl, text-upper mended (f .dest) false (f .clean .0), text-upper mended (f .src) (isEmpty (f .digis)) (f .clean .1 .0), texts-of mended (f .digis) (f .clean .1 .1), heards-in mended (f .digis) (f .clean .1 .1))
+
+-- ---- by the reading
+
+all-both : (mended : Bool) (v : List Address) → AllClean false v → AllClean mended v
+all-both mended [] ok = tt
+all-both mended (a ∷ v) ok = (clean-both mended (a .letters) (a .ssid) (ok .0), all-both mended v (ok .1))
+
+info-both : (mended : Bool) {typ : ℕ} {info : List ℕ} → PlainInfo false typ info → PlainInfo mended typ info
+info-both mended (text e) = text e
+info-both mended (binary e) = binary e
+info-both mended (body b) = body (body-both mended b)
+
+-- a frame that is plain under the original reading is plain under both
+pub plain-both : (mended : Bool) {d : List ℕ} → Plain false d → Plain mended d
+plain-both mended f =
+    record {
+      dest = f .dest;
+      src = f .src;
+      digis = f .digis;
+      info = f .info;
+      dest-unheard = f .dest-unheard;
+      src-unheard = f .src-unheard;
+      clean = all-both mended (f .dest ∷ f .src ∷ f .digis) (f .clean);
+      few = f .few;
+      octets = f .octets;
+      is = f .is;
+      kind = info-both mended (f .kind);
+    }

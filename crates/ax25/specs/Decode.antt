@@ -55,20 +55,27 @@ isEmpty (x ∷ xs) = false
 unfoldable pub marked : ℕ → Bool → Bool → List ℕ → List ℕ
 marked l h last f = set f l (bitOr (getD f l 0) (pick h 0x80 0 + pick last 0x01 0))
 
+-- the alias's calls
+unfoldable pub readAlias : ℕ → List Bool → Option (List (List ℕ) × List Bool)
+readAlias n b = do
+  (k, r) ← takeBits 3 b
+  a ← nameAt k aliases
+  some (aliasCalls a 1 n, r)
+
 module _ (l : ℕ) where
+  -- the address fields of calls with their H bits; the last has its low bit set
+  unfoldable pub addresses : List (List ℕ) → List Bool → List ℕ
+  addresses [] hs = []
+  addresses (c ∷ cs) hs = marked l (getD hs 0 false) (isEmpty cs) (callBytes l c) ++ addresses cs (drop 1 hs)
+
+-- by the reading of tokens, original or mended
+module _ (mended : Bool) (l : ℕ) where
   unfoldable pub readTokens : ℕ → List Bool → Option (List (List ℕ) × List Bool)
   readTokens zero b = some ([], b)
   readTokens (suc n) b = do
-    (c, r) ← readToken l b
+    (c, r) ← readToken mended l b
     (cs, e) ← readTokens n r
     some (c ∷ cs, e)
-
-  -- the alias's calls
-  unfoldable pub readAlias : ℕ → List Bool → Option (List (List ℕ) × List Bool)
-  readAlias n b = do
-    (k, r) ← takeBits 3 b
-    a ← nameAt k aliases
-    some (aliasCalls a 1 n, r)
 
   -- the alias bit, then the alias or the tokens
   unfoldable pub readAliased : ℕ → List Bool → Option (List (List ℕ) × List Bool)
@@ -83,8 +90,8 @@ module _ (l : ℕ) where
   unfoldable pub readHead : ℕ → List Bool → Option (Head × List Bool)
   readHead n b = do
     (h, r₁) ← splitOff n b
-    (d, r₂) ← readToken l r₁
-    (s, r₃) ← readToken l r₂
+    (d, r₂) ← readToken mended l r₁
+    (s, r₃) ← readToken mended l r₂
     (v, r₄) ← readDigis (starts (ascii "AP") d) n r₃
     (t, r₅) ← takeBits (typeWidth (starts (ascii "AP") d)) r₄
     pick (known t) (some (record { dest = d; src = s; digis = v; heard = h; typ = t }, r₅)) none
@@ -94,16 +101,11 @@ module _ (l : ℕ) where
   readInfo typ all b =
       pick (eqb typ Text) (text7Of all (length all - length b))
       (pick (eqb typ Binary) (some (bytesIn b))
-      (pick (eqb typ ThirdParty) (readThird l b)
-      (readBody typ l b)))
-
-  -- the address fields of calls with their H bits; the last has its low bit set
-  unfoldable pub addresses : List (List ℕ) → List Bool → List ℕ
-  addresses [] hs = []
-  addresses (c ∷ cs) hs = marked l (getD hs 0 false) (isEmpty cs) (callBytes l c) ++ addresses cs (drop 1 hs)
+      (pick (eqb typ ThirdParty) (readThird mended l b)
+      (readBody mended typ l b)))
 
   unfoldable pub readFrame : ℕ → List Bool → Option (List ℕ)
   readFrame header b = do
     (r, e) ← readHead (digiCount header) b
     i ← readInfo (r .typ) b e
-    some (addresses (r .dest ∷ r .src ∷ r .digis) (false ∷ false ∷ r .heard) ++ (pick (odd (header / 64)) (0x03 ∷ 0xF0 ∷ []) [] ++ i))
+    some (addresses l (r .dest ∷ r .src ∷ r .digis) (false ∷ false ∷ r .heard) ++ (pick (odd (header / 64)) (0x03 ∷ 0xF0 ∷ []) [] ++ i))

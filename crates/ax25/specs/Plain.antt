@@ -1,4 +1,4 @@
--- Document 01's term *plain frame*.
+-- Document 01's term *plain frame*, by the decoder's reading.
 -- Assumes nothing.
 use mathlib.Core.Path.{_≡_}
 use mathlib.Core.Bool.{Bool, false}
@@ -21,9 +21,9 @@ pub record Address : Type 0 where
   pub heard : Bool
 
 -- "clean addresses"
-abbrev pub AllClean : List Address → Type 0
-AllClean [] = Unit {0}
-AllClean (a ∷ rest) = CleanCall (a .letters) (a .ssid) × AllClean rest
+abbrev pub AllClean : Bool → List Address → Type 0
+AllClean mended [] = Unit {0}
+AllClean mended (a ∷ rest) = CleanCall mended (a .letters) (a .ssid) × AllClean mended rest
 
 abbrev pub twice : ℕ → ℕ
 twice x = x * 2
@@ -39,21 +39,21 @@ addressField [] = []
 addressField (a ∷ rest) = addressBytes a (isEmpty rest) ++ addressField rest
 
 -- "by `classify`, is Text or Binary; or Position ..; or TimestampedPosition ..; or Message .."
-pub data PlainInfo (typ : ℕ) (info : List ℕ) : Type 0 where
-  text : typ ≡ Text → PlainInfo typ info
-  binary : typ ≡ Binary → PlainInfo typ info
-  body : PlainBody typ info → PlainInfo typ info
+pub data PlainInfo (mended : Bool) (typ : ℕ) (info : List ℕ) : Type 0 where
+  text : typ ≡ Text → PlainInfo mended typ info
+  binary : typ ≡ Binary → PlainInfo mended typ info
+  body : PlainBody mended typ info → PlainInfo mended typ info
 
 -- "A *plain frame* (command `Ax25`) has 2 to 10 clean addresses; bit 80 clear in destination and source; control 03, PID F0"
-pub record Plain (frame : List ℕ) : Type 0 where
+pub record Plain (mended : Bool) (frame : List ℕ) : Type 0 where
   pub dest : Address
   pub src : Address
   pub digis : List Address
   pub info : List ℕ
   pub dest-unheard : dest .heard ≡ false
   pub src-unheard : src .heard ≡ false
-  pub clean : AllClean (dest ∷ src ∷ digis)
+  pub clean : AllClean mended (dest ∷ src ∷ digis)
   pub few : length digis ≤ 8
   pub octets : Bytes info
   pub is : frame ≡ addressField (dest ∷ src ∷ digis) ++ (0x03 ∷ 0xF0 ∷ info)
-  pub kind : PlainInfo (classifyOf (starts (ascii "AP") (dest .letters)) info) info
+  pub kind : PlainInfo mended (classifyOf (starts (ascii "AP") (dest .letters)) info) info

@@ -118,7 +118,7 @@ call-field l b s c h =
 
 -- ---- each undoes the other
 
-module _ (l : ℕ) (letters : List ℕ) (ssid : ℕ) (h : CleanCall letters ssid) (six : 6 ≤ l) where
+module _ (mended : Bool) (l : ℕ) (letters : List ℕ) (ssid : ℕ) (h : CleanCall mended letters ssid) (six : 6 ≤ l) where
   pub call-back : addrCall l (callBytes l (callText letters ssid)) ≡ callText letters ssid
   call-back =
       rw (call-field l letters ssid (h .clean) (h .small))

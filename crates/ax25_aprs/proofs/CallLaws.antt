@@ -60,7 +60,7 @@ visible-solid (x ∷ s) e (suc i) h = visible-solid s (and-right (ltb 32 x) (vis
 
 -- ---- a clean call
 
-module _ (letters : List ℕ) (ssid : ℕ) (h : CleanCall letters ssid) where
+module _ (mended : Bool) (letters : List ℕ) (ssid : ℕ) (h : CleanCall mended letters ssid) where
   pub call-nine : length (callText letters ssid) ≤ 9
   call-nine = omega (arith, call-size letters ssid, h .few-letters)
 

@@ -17,6 +17,7 @@ use Rattle.laws.proofs.TextLaws.{below, at-each}
 use Rattle.bits.specs.Val.{stops, nextVal, valFrom, valOf}
 use Rattle.ax25_token.specs.Token.{twoDigits, decimal, suffix}
 use Rattle.ax25_token.specs.Clean.{cleanLetter, cleanLetters, misread, callText, CleanCall}
+use Rattle.ax25_token.proofs.TokenBack.{wide-clean}
 use Rattle.ax25_address.specs.Types.{Position, TimestampedPosition, Message}
 use Rattle.ax25_aprs.specs.Words.{words, word, firstOf, wordAt}
 use Rattle.ax25_aprs.specs.Text.{before, joined, altitudeAt, frontBits, frontSize, textFrom, textBits}
@@ -88,23 +89,28 @@ here-plain =
       altitudes = altitudes-by (here .comment) refl;
     }
 
-call-clean : CleanCall (ascii "N0CALL") 12
+call-clean : CleanCall false (ascii "N0CALL") 12
 unfolding cleanLetters cleanLetter isDigit between callText suffix decimal twoDigits isOneOf same misread pick
 call-clean = record { clean = refl; some-letters = omega arith; few-letters = omega arith; small = omega arith; not-misread = refl }
 
 -- ---- one plain body of each type
 
-pub a-position : PlainBody Position (ascii "!4730.12N/12217.56W>" ++ remark)
+pub a-position : PlainBody false Position (ascii "!4730.12N/12217.56W>" ++ remark)
 unfolding here placeBytes dotted side pick
 a-position = position here here-plain
 
-pub a-timestamped : PlainBody TimestampedPosition (ascii "@123456h4730.12N/12217.56W>" ++ remark)
+pub a-timestamped : PlainBody false TimestampedPosition (ascii "@123456h4730.12N/12217.56W>" ++ remark)
 unfolding here placeBytes dotted side pick ofDigits inRange below between
 a-timestamped = timestamped (ascii "123456") here (of-digits 6 (ascii "123456") refl) here-plain
 
-pub a-message : PlainBody Message (ascii ":N0CALL-12:VARA HF /A=001234")
+pub a-message : PlainBody false Message (ascii ":N0CALL-12:VARA HF /A=001234")
 unfolding callText suffix decimal twoDigits pick filled inRange below between
 a-message = message (ascii "N0CALL") 12 (ascii "VARA HF /A=001234") call-clean (in-range 0x20 0x7F (ascii "VARA HF /A=001234") refl)
+
+-- a message to WIDE2-2, which is clean under the mended reading alone (02, E5)
+pub to-wide : PlainBody true Message (ascii ":WIDE2-2  :hi")
+unfolding callText suffix decimal pick filled inRange below between
+to-wide = message (ascii "WIDE2") 2 (ascii "hi") (wide-clean .2) (in-range 0x20 0x7F (ascii "hi") refl)
 
 -- ---- the dictionary, word by word
 

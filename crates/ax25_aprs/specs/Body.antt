@@ -37,9 +37,9 @@ callOf s = map upper (trim white s)
 unfoldable pub messageBits : ℕ → List ℕ → Outcome (List Bool)
 messageBits l s = orRefused 4 (tokenBits l (callOf (take 9 s))) then orRefused 5 (textBits false (drop 10 s))
 
-unfoldable pub readMessage : ℕ → List Bool → Option (List ℕ)
-readMessage l b = do
-  (c, r) ← readToken l b
+unfoldable pub readMessage : Bool → ℕ → List Bool → Option (List ℕ)
+readMessage mended l b = do
+  (c, r) ← readToken mended l b
   some (0x3A ∷ filled 9 c ++ 0x3A ∷ readText false r)
 
 -- a body behind its type byte (Text: from its first byte), by type; l is the call length
@@ -50,12 +50,12 @@ bodyBits typ l s =
     (pick (eqb typ TimestampedPosition) (timestampedBits s)
     (messageBits l s)))
 
-unfoldable pub readBody : ℕ → ℕ → List Bool → Option (List ℕ)
-readBody typ l b =
+unfoldable pub readBody : Bool → ℕ → ℕ → List Bool → Option (List ℕ)
+readBody mended typ l b =
     pick (eqb typ Text) (some (readText false b))
     (pick (eqb typ Position)
     (do
       t ← readLatlon b
       some (0x21 ∷ t))
     (pick (eqb typ TimestampedPosition) (readTimestamped b)
-    (readMessage l b)))
+    (readMessage mended l b)))

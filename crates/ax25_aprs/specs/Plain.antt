@@ -1,4 +1,4 @@
--- The information of document 01's *plain frame*, by type.
+-- The information of document 01's *plain frame*, by type and by the decoder's reading.
 -- Assumes nothing.
 use mathlib.Core.Path.{_≡_}
 use mathlib.Core.Bool.{Bool, true}
@@ -57,11 +57,11 @@ pub record PlainPlace (s : Place) : Type 0 where
   pub altitudes : Altitudes (s .comment)
 
 -- the information of a type with a body of its own
-pub data PlainBody : ℕ → List ℕ → Type 0 where
+pub data PlainBody (mended : Bool) : ℕ → List ℕ → Type 0 where
   -- "`!`", and a position
-  position : (s : Place) → PlainPlace s → PlainBody Position (0x21 ∷ placeBytes s)
+  position : (s : Place) → PlainPlace s → PlainBody mended Position (0x21 ∷ placeBytes s)
   -- "`@`, six digits, `h`, then as Position after its `!`"
-  timestamped : (t : List ℕ) (s : Place) → DigitsOf 6 t → PlainPlace s → PlainBody TimestampedPosition (0x40 ∷ t ++ 0x68 ∷ placeBytes s)
+  timestamped : (t : List ℕ) (s : Place) → DigitsOf 6 t → PlainPlace s → PlainBody mended TimestampedPosition (0x40 ∷ t ++ 0x68 ∷ placeBytes s)
   -- "`:`, a clean call padded to 9, `:`, bytes 20 to 7F"
-  message : (letters : List ℕ) (ssid : ℕ) (s : List ℕ) → CleanCall letters ssid → Printable s
-      → PlainBody Message (0x3A ∷ filled 9 (callText letters ssid) ++ 0x3A ∷ s)
+  message : (letters : List ℕ) (ssid : ℕ) (s : List ℕ) → CleanCall mended letters ssid → Printable s
+      → PlainBody mended Message (0x3A ∷ filled 9 (callText letters ssid) ++ 0x3A ∷ s)

@@ -80,17 +80,19 @@ module _ (l : ℕ) where
       callField (collectOf 0x3E 10 d) d
       (λ e. callField (collectOf 0x2C 10 e) e (λ f. pathField (collectOf 0x2C 14 f)))
 
-  -- ---- reading
+-- ---- reading
 
-  -- the type of an inner type's number
-  abbrev pub innerType : ℕ → ℕ
-  innerType k = pick (eqb k 0) Position (pick (eqb k 1) TimestampedPosition (pick (eqb k 2) Message Text))
+-- the type of an inner type's number
+abbrev pub innerType : ℕ → ℕ
+innerType k = pick (eqb k 0) Position (pick (eqb k 1) TimestampedPosition (pick (eqb k 2) Message Text))
 
+-- by the reading of tokens, original or mended
+module _ (mended : Bool) (l : ℕ) where
   unfoldable pub readThird : List Bool → Option (List ℕ)
   readThird b = do
-    (s₁, r₁) ← readToken l b
-    (s₂, r₂) ← readToken l r₁
-    (s₃, r₃) ← readToken l r₂
+    (s₁, r₁) ← readToken mended l b
+    (s₂, r₂) ← readToken mended l r₁
+    (s₃, r₃) ← readToken mended l r₂
     (k, r₄) ← takeBits 2 r₃
-    d ← readBody (innerType k) l r₄
+    d ← readBody mended (innerType k) l r₄
     some (ascii "}" ++ (s₁ ++ (ascii ">" ++ (s₂ ++ (ascii ",TCPIP," ++ (s₃ ++ (ascii "*:" ++ d)))))))

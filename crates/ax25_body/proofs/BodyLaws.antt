@@ -45,13 +45,13 @@ filled-short m n s e =
 
 -- ---- a message
 
-module _ (l : ℕ) (b : List Bool) where
-  pub message-none : readToken l b ≡ none → readMessage l b ≡ none
+module _ (mended : Bool) (l : ℕ) (b : List Bool) where
+  pub message-none : readToken mended l b ≡ none → readMessage mended l b ≡ none
   unfolding readMessage
   message-none e = rw e
 
-  pub message-some : (c : List ℕ) (r : List Bool) → readToken l b ≡ some (c, r)
-      → readMessage l b ≡ some ((0x3A ∷ []) ++ (filled 9 c ++ ((0x3A ∷ []) ++ readText false r)))
+  pub message-some : (c : List ℕ) (r : List Bool) → readToken mended l b ≡ some (c, r)
+      → readMessage mended l b ≡ some ((0x3A ∷ []) ++ (filled 9 c ++ ((0x3A ∷ []) ++ readText false r)))
   unfolding readMessage
   message-some c r e = rw e
 
@@ -80,20 +80,20 @@ other-number kind.ThirdParty h = (λ f. omega (arith, f), λ f. omega (arith, f)
 
 -- ---- a body by its type
 
-module _ (t : AprsType) (l : ℕ) (b : List Bool) where
-  pub read-text : t ≡ kind.Text → readBody (typeNumber t) l b ≡ some (readText false b)
+module _ (mended : Bool) (t : AprsType) (l : ℕ) (b : List Bool) where
+  pub read-text : t ≡ kind.Text → readBody mended (typeNumber t) l b ≡ some (readText false b)
   unfolding readBody pick
   read-text e = rw e
 
-  pub read-position : t ≡ kind.Position → readBody (typeNumber t) l b ≡ readPosition b
+  pub read-position : t ≡ kind.Position → readBody mended (typeNumber t) l b ≡ readPosition b
   unfolding readBody readPosition pick
   read-position e = rw e
 
-  pub read-timestamped : t ≡ kind.TimestampedPosition → readBody (typeNumber t) l b ≡ readTimestamped b
+  pub read-timestamped : t ≡ kind.TimestampedPosition → readBody mended (typeNumber t) l b ≡ readTimestamped b
   unfolding readBody pick
   read-timestamped e = rw e
 
-  pub read-other : Others t → readBody (typeNumber t) l b ≡ readMessage l b
+  pub read-other : Others t → readBody mended (typeNumber t) l b ≡ readMessage mended l b
   unfolding readBody pick
   read-other h =
       let n = other-number t h in

@@ -187,7 +187,7 @@ module _ (l : ℕ) where
         → pick a (answer (bitsOf 2 0) then bodyBits Position l (drop 1 s))
         (pick b (answer (bitsOf 2 1) then bodyBits TimestampedPosition l (drop 1 s))
         (pick e (answer (bitsOf 2 2) then bodyBits Message l (drop 1 s)) (answer (bitsOf 2 3) then bodyBits Text l s)))
-        ≡ (answer (bitsOf 2 k) then bodyBits (innerType l k) l (afterType (innerType l k) s))
+        ≡ (answer (bitsOf 2 k) then bodyBits (innerType k) l (afterType (innerType k) s))
     unfolding pick afterType
     tests-is true b e k h = rw h
     tests-is false true e k h = rw h
@@ -195,7 +195,7 @@ module _ (l : ℕ) where
     tests-is false false false k h = rw h
 
   pub inner-is : (d : List ℕ) → 2 ≤ length d → (k : ℕ) → k ≡ innerNumber d
-      → innerBits l d ≡ (answer (bitsOf 2 k) then bodyBits (innerType l k) l (afterType (innerType l k) d))
+      → innerBits l d ≡ (answer (bitsOf 2 k) then bodyBits (innerType k) l (afterType (innerType k) d))
   unfolding innerBits innerNumber
   inner-is [] h k e = absurd (omega arith)
   inner-is (c ∷ []) h k e = absurd (omega arith)

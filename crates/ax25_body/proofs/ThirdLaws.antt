@@ -45,20 +45,20 @@ module _ (o : Option (List ℕ × List Bool)) (u : List Bool) (x out : List ℕ)
 
 -- ---- the type of an inner type's number
 
-module _ (l k : ℕ) where
-  pub inner-other : (k ≡ 0 → ⊥) → (k ≡ 1 → ⊥) → (k ≡ 2 → ⊥) → innerType l k ≡ Text
+module _ (k : ℕ) where
+  pub inner-other : (k ≡ 0 → ⊥) → (k ≡ 1 → ⊥) → (k ≡ 2 → ⊥) → innerType k ≡ Text
   unfolding pick
   inner-other f g h = rw (ne-eqb k 0 f, ne-eqb k 1 g, ne-eqb k 2 h)
 
-  pub inner-zero : k ≡ 0 → innerType l k ≡ Position
+  pub inner-zero : k ≡ 0 → innerType k ≡ Position
   unfolding pick
   inner-zero e = rw e
 
-  pub inner-one : k ≡ 1 → innerType l k ≡ TimestampedPosition
+  pub inner-one : k ≡ 1 → innerType k ≡ TimestampedPosition
   unfolding pick
   inner-one e = rw e
 
-  pub inner-two : k ≡ 2 → innerType l k ≡ Message
+  pub inner-two : k ≡ 2 → innerType k ≡ Message
   unfolding pick
   inner-two e = rw e
 
@@ -67,27 +67,27 @@ module _ (l k : ℕ) where
 flat : (a s b t c v x : List ℕ) → a ++ (s ++ (b ++ (t ++ (c ++ (v ++ x))))) ≡ ((a ++ s) ++ ((b ++ t) ++ (c ++ v))) ++ x
 flat a s b t c v x = simp append-assoc
 
-module _ (l : ℕ) (b : List Bool) where
-  pub inner-none : takeBits 2 b ≡ none → readInner l b ≡ none
+module _ (mended : Bool) (l : ℕ) (b : List Bool) where
+  pub inner-none : takeBits 2 b ≡ none → readInner mended l b ≡ none
   unfolding readInner
   inner-none e = rw e
 
   pub inner-some : (k : ℕ) (r : List Bool) → takeBits 2 b ≡ some (k, r)
-      → readInner l b ≡ (readBody (innerType l k) l r >>= (λ d. some (ascii "*:" ++ d)))
+      → readInner mended l b ≡ (readBody mended (innerType k) l r >>= (λ d. some (ascii "*:" ++ d)))
   unfolding readInner
   inner-some k r e = rw e
 
-  pub third-first : readToken l b ≡ none → readThird l b ≡ none
+  pub third-first : readToken mended l b ≡ none → readThird mended l b ≡ none
   unfolding readThird
   third-first e = rw e
 
-  module _ (s₁ : List ℕ) (r₁ : List Bool) (e₁ : readToken l b ≡ some (s₁, r₁)) where
-    pub third-second : readToken l r₁ ≡ none → readThird l b ≡ none
+  module _ (s₁ : List ℕ) (r₁ : List Bool) (e₁ : readToken mended l b ≡ some (s₁, r₁)) where
+    pub third-second : readToken mended l r₁ ≡ none → readThird mended l b ≡ none
     unfolding readThird
     third-second e = rw (e₁, e)
 
-    module _ (s₂ : List ℕ) (r₂ : List Bool) (e₂ : readToken l r₁ ≡ some (s₂, r₂)) where
-      pub third-last : readToken l r₂ ≡ none → readThird l b ≡ none
+    module _ (s₂ : List ℕ) (r₂ : List Bool) (e₂ : readToken mended l r₁ ≡ some (s₂, r₂)) where
+      pub third-last : readToken mended l r₂ ≡ none → readThird mended l b ≡ none
       unfolding readThird
       third-last e = rw (e₁, e₂, e)
 
@@ -98,12 +98,12 @@ module _ (l : ℕ) (b : List Bool) where
       joined s₃ (some d) = ap some (flat (ascii "}") s₁ (ascii ">") s₂ (ascii ",TCPIP,") s₃ (ascii "*:" ++ d))
 
       inner-joined : (s₃ : List ℕ) (o : Option (ℕ × List Bool))
-          → (o >>= (λ p. readBody (innerType l (p .0)) l (p .1) >>= (λ d. some (ascii "}" ++ (s₁ ++ (ascii ">" ++ (s₂ ++ (ascii ",TCPIP," ++ (s₃ ++ (ascii "*:" ++ d))))))))))
-          ≡ ((o >>= (λ p. readBody (innerType l (p .0)) l (p .1) >>= (λ d. some (ascii "*:" ++ d)))) >>= (λ d. some (((ascii "}" ++ s₁) ++ ((ascii ">" ++ s₂) ++ (ascii ",TCPIP," ++ s₃))) ++ d)))
+          → (o >>= (λ p. readBody mended (innerType (p .0)) l (p .1) >>= (λ d. some (ascii "}" ++ (s₁ ++ (ascii ">" ++ (s₂ ++ (ascii ",TCPIP," ++ (s₃ ++ (ascii "*:" ++ d))))))))))
+          ≡ ((o >>= (λ p. readBody mended (innerType (p .0)) l (p .1) >>= (λ d. some (ascii "*:" ++ d)))) >>= (λ d. some (((ascii "}" ++ s₁) ++ ((ascii ">" ++ s₂) ++ (ascii ",TCPIP," ++ s₃))) ++ d)))
       inner-joined s₃ none = refl
-      inner-joined s₃ (some p) = joined s₃ (readBody (innerType l (p .0)) l (p .1))
+      inner-joined s₃ (some p) = joined s₃ (readBody mended (innerType (p .0)) l (p .1))
 
-      pub third-all : (s₃ : List ℕ) (r₃ : List Bool) → readToken l r₂ ≡ some (s₃, r₃)
-          → readThird l b ≡ (readInner l r₃ >>= (λ d. some (((ascii "}" ++ s₁) ++ ((ascii ">" ++ s₂) ++ (ascii ",TCPIP," ++ s₃))) ++ d)))
+      pub third-all : (s₃ : List ℕ) (r₃ : List Bool) → readToken mended l r₂ ≡ some (s₃, r₃)
+          → readThird mended l b ≡ (readInner mended l r₃ >>= (λ d. some (((ascii "}" ++ s₁) ++ ((ascii ">" ++ s₂) ++ (ascii ",TCPIP," ++ s₃))) ++ d)))
       unfolding readThird readInner
       third-all s₃ r₃ e₃ = rw (e₁, e₂, e₃) (inner-joined s₃ (takeBits 2 r₃))

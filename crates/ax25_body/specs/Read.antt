@@ -38,8 +38,8 @@ readPosition b = do
   some (0x21 ∷ t)
 
 -- the end of a third-party body's head, and the inner body behind its type in two bits
-unfoldable pub readInner : ℕ → List Bool → Option (List ℕ)
-readInner l b = do
+unfoldable pub readInner : Bool → ℕ → List Bool → Option (List ℕ)
+readInner mended l b = do
   (k, r) ← takeBits 2 b
-  d ← readBody (innerType l k) l r
+  d ← readBody mended (innerType k) l r
   some (ascii "*:" ++ d)

@@ -84,11 +84,11 @@ fn put_filled(c: Call, out: &mut [u8], to: usize) -> usize
 }
 
 // The message that stands from a bit on, with its type byte; where there is none, nothing is said of the output.
-pub fn message_decode(s: &[u8], at: usize, l: usize, out: &mut [u8], to: usize) -> Got
+pub fn message_decode(s: &[u8], at: usize, l: usize, out: &mut [u8], to: usize, mended: bool) -> Got
     requires { ⌜ (length (now s) < 2 ^ 55) × (to < 2 ^ 54) × (2 ≤ l) × (l ≤ 7) ⌝ }
-    ensures { λ r. ⌜ Reads (readMessage l (drop at (unpack (now (s .entry))))) (now (out .entry)) to (now (out .exit)) r ⌝ }
+    ensures { λ r. ⌜ Reads (readMessage mended l (drop at (unpack (now (s .entry))))) (now (out .entry)) to (now (out .exit)) r ⌝ }
 {
-    let d = ax25_token::token_decode(s, at, l);
+    let d = ax25_token::token_decode(s, at, l, mended);
     let token = d.token;
     let Token::Next(p) = token else {
         return Got::Nothing;
@@ -109,14 +109,22 @@ fn position_decode(s: &[u8], at: usize, out: &mut [u8], to: usize) -> Got
 }
 
 // The body of a type that stands from a bit on, with its type byte; where there is none, nothing is said of the output.
-pub fn aprs_decode(typ: AprsType, s: &[u8], at: usize, l: usize, out: &mut [u8], to: usize) -> Got
+pub fn aprs_decode(
+    typ: AprsType,
+    s: &[u8],
+    at: usize,
+    l: usize,
+    out: &mut [u8],
+    to: usize,
+    mended: bool,
+) -> Got
     requires { ⌜ (length (now s) < 2 ^ 55) × (at < 2 ^ 59) × (to < 2 ^ 54) × (2 ≤ l) × (l ≤ 7) ⌝ }
-    ensures { λ r. ⌜ Reads (readBody (typeNumber typ) l (drop at (unpack (now (s .entry))))) (now (out .entry)) to (now (out .exit)) r ⌝ }
+    ensures { λ r. ⌜ Reads (readBody mended (typeNumber typ) l (drop at (unpack (now (s .entry))))) (now (out .entry)) to (now (out .exit)) r ⌝ }
 {
     match typ {
         AprsType::Text => Got::Next(ax25_aprs::text::text_decode(s, at, false, out, to)),
         AprsType::Position => position_decode(s, at, out, to),
         AprsType::TimestampedPosition => ax25_aprs::body::timestamped_decode(s, at, out, to),
-        _ => message_decode(s, at, l, out, to),
+        _ => message_decode(s, at, l, out, to, mended),
     }
 }

@@ -141,11 +141,19 @@ pub enum Pass {
 }
 
 // A text, and behind it the call that stands from a bit on; where there is none, nothing is said of the output.
-fn call_decode(s: &[u8], at: usize, l: usize, before: &[u8], out: &mut [u8], to: usize) -> Pass
+fn call_decode(
+    s: &[u8],
+    at: usize,
+    l: usize,
+    before: &[u8],
+    out: &mut [u8],
+    to: usize,
+    mended: bool,
+) -> Pass
     requires { ⌜ (length (now s) < 2 ^ 55) × (2 ≤ l) × (l ≤ 7) × (length (now before) ≤ 16) × (to < 2 ^ 54) ⌝ }
-    ensures { λ r. ⌜ Passes (readToken l (drop at (unpack (now (s .entry))))) (unpack (now (s .entry))) (now (before .entry)) (now (out .entry)) to (now (out .exit)) r ⌝ }
+    ensures { λ r. ⌜ Passes (readToken mended l (drop at (unpack (now (s .entry))))) (unpack (now (s .entry))) (now (before .entry)) (now (out .entry)) to (now (out .exit)) r ⌝ }
 {
-    let d = ax25_token::token_decode(s, at, l);
+    let d = ax25_token::token_decode(s, at, l, mended);
     let token = d.token;
     let Token::Next(p) = token else {
         return Pass::Nothing;
@@ -157,7 +165,7 @@ fn call_decode(s: &[u8], at: usize, l: usize, before: &[u8], out: &mut [u8], to:
 // The type of an inner type's number.
 fn inner_type(k: u64) -> AprsType
     requires { ⌜ k < 4 ⌝ }
-    ensures { λ r. ⌜ ((l : ℕ) → typeNumber r ≡ innerType l k) ⌝ }
+    ensures { λ r. ⌜ typeNumber r ≡ innerType k ⌝ }
 {
     match k {
         0 => AprsType::Position,
@@ -168,30 +176,30 @@ fn inner_type(k: u64) -> AprsType
 }
 
 // The end of the head, and the inner body that stands from a bit on behind its type in two bits.
-fn inner_decode(s: &[u8], at: usize, l: usize, out: &mut [u8], to: usize) -> Got
+fn inner_decode(s: &[u8], at: usize, l: usize, out: &mut [u8], to: usize, mended: bool) -> Got
     requires { ⌜ (length (now s) < 2 ^ 55) × (to < 2 ^ 53) × (2 ≤ l) × (l ≤ 7) ⌝ }
-    ensures { λ r. ⌜ Reads (readInner l (drop at (unpack (now (s .entry))))) (now (out .entry)) to (now (out .exit)) r ⌝ }
+    ensures { λ r. ⌜ Reads (readInner mended l (drop at (unpack (now (s .entry))))) (now (out .entry)) to (now (out .exit)) r ⌝ }
 {
     let Taken::Bits(k, p) = bits::reader::take_at(s, at, 2) else {
         return Got::Nothing;
     };
     let i = bits_write::copy(out, to, b"*:");
-    body::aprs_decode(inner_type(k), s, p, l, out, i)
+    body::aprs_decode(inner_type(k), s, p, l, out, i, mended)
 }
 
 // The third-party body that stands from a bit on; where there is none, nothing is said of the output.
-pub fn third_decode(s: &[u8], at: usize, l: usize, out: &mut [u8], to: usize) -> Got
+pub fn third_decode(s: &[u8], at: usize, l: usize, out: &mut [u8], to: usize, mended: bool) -> Got
     requires { ⌜ (length (now s) < 2 ^ 55) × (to < 2 ^ 52) × (2 ≤ l) × (l ≤ 7) ⌝ }
-    ensures { λ r. ⌜ Reads (readThird l (drop at (unpack (now (s .entry))))) (now (out .entry)) to (now (out .exit)) r ⌝ }
+    ensures { λ r. ⌜ Reads (readThird mended l (drop at (unpack (now (s .entry))))) (now (out .entry)) to (now (out .exit)) r ⌝ }
 {
-    let Pass::Next(p, i) = call_decode(s, at, l, b"}", out, to) else {
+    let Pass::Next(p, i) = call_decode(s, at, l, b"}", out, to, mended) else {
         return Got::Nothing;
     };
-    let Pass::Next(q, j) = call_decode(s, p, l, b">", out, i) else {
+    let Pass::Next(q, j) = call_decode(s, p, l, b">", out, i, mended) else {
         return Got::Nothing;
     };
-    let Pass::Next(r, k) = call_decode(s, q, l, b",TCPIP,", out, j) else {
+    let Pass::Next(r, k) = call_decode(s, q, l, b",TCPIP,", out, j, mended) else {
         return Got::Nothing;
     };
-    inner_decode(s, r, l, out, k)
+    inner_decode(s, r, l, out, k, mended)
 }

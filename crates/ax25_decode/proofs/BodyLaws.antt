@@ -39,22 +39,22 @@ bytes-in i b e = ap (λ (n : ℕ). packN n b) e
 
 -- ---- the body by its type
 
-module _ (l : ℕ) (b : List Bool) (p : ℕ) where
-  pub info-text : (t : AprsType) → t ≡ kind.Text → p ≤ length b → readInfo l (typeNumber t) b (drop p b) ≡ text7Of b p
+module _ (mended : Bool) (l : ℕ) (b : List Bool) (p : ℕ) where
+  pub info-text : (t : AprsType) → t ≡ kind.Text → p ≤ length b → readInfo mended l (typeNumber t) b (drop p b) ≡ text7Of b p
   unfolding readInfo pick
   info-text t e h =
       let z : length b - length (drop p b) ≡ p = omega (arith, h, length-drop p b) in
       rw e (ap (text7Of b) z)
 
-  pub info-binary : (t : AprsType) → t ≡ kind.Binary → readInfo l (typeNumber t) b (drop p b) ≡ some (bytesIn (drop p b))
+  pub info-binary : (t : AprsType) → t ≡ kind.Binary → readInfo mended l (typeNumber t) b (drop p b) ≡ some (bytesIn (drop p b))
   unfolding readInfo pick
   info-binary t e = rw e
 
-  pub info-third : (t : AprsType) → t ≡ kind.ThirdParty → readInfo l (typeNumber t) b (drop p b) ≡ readThird l (drop p b)
+  pub info-third : (t : AprsType) → t ≡ kind.ThirdParty → readInfo mended l (typeNumber t) b (drop p b) ≡ readThird mended l (drop p b)
   unfolding readInfo pick
   info-third t e = rw e
 
-  pub info-body : (t : AprsType) → OneOf (2 ∷ 3 ∷ 4 ∷ []) (tagOf the-type t) → readInfo l (typeNumber t) b (drop p b) ≡ readBody (typeNumber t) l (drop p b)
+  pub info-body : (t : AprsType) → OneOf (2 ∷ 3 ∷ 4 ∷ []) (tagOf the-type t) → readInfo mended l (typeNumber t) b (drop p b) ≡ readBody mended (typeNumber t) l (drop p b)
   unfolding readInfo pick
   info-body kind.Text h = absurd (omega (arith, own-place 0 h .0))
   info-body kind.Binary h = absurd (omega (arith, own-place 1 h .0))
@@ -77,12 +77,12 @@ module _ (l : ℕ) (b : List Bool) (o : Option (decode.Head × List Bool)) (out 
   pub unheaded : r ≡ Nothing → o ≡ none
   unheaded u = subst (λ (x : Head). Heads l b o out e x) u h
 
-module _ (l header n : ℕ) (b : List Bool) (c : n ≡ digiCount header) where
-  pub frame-none : readHead l n b ≡ none → readFrame l header b ≡ none
+module _ (mended : Bool) (l header n : ℕ) (b : List Bool) (c : n ≡ digiCount header) where
+  pub frame-none : readHead mended l n b ≡ none → readFrame mended l header b ≡ none
   unfolding readFrame
   frame-none u = rw (← c, u)
 
-  module _ (out mid : List ℕ) (p q : ℕ) (t : AprsType) (h : HeadRead l b (readHead l n b) out mid p q t) where
+  module _ (out mid : List ℕ) (p q : ℕ) (t : AprsType) (h : HeadRead l b (readHead mended l n b) out mid p q t) where
     -- at most ten addresses
     pub head-place : l ≤ 7 → q ≤ 80
     head-place k =
@@ -92,18 +92,18 @@ module _ (l header n : ℕ) (b : List Bool) (c : n ≡ digiCount header) where
     fields : List ℕ
     fields = addresses l (h .head .dest ∷ h .head .src ∷ h .head .digis) (false ∷ false ∷ h .head .heard)
 
-    frame-is : (u : List ℕ) → u ≡ pick (odd (header / 64)) (0x03 ∷ 0xF0 ∷ []) [] → readFrame l header b ≡ (readInfo l (typeNumber t) b (drop p b) >>= (λ i. some ((fields ++ u) ++ i)))
+    frame-is : (u : List ℕ) → u ≡ pick (odd (header / 64)) (0x03 ∷ 0xF0 ∷ []) [] → readFrame mended l header b ≡ (readInfo mended l (typeNumber t) b (drop p b) >>= (λ i. some ((fields ++ u) ++ i)))
     unfolding readFrame fields
-    frame-is u eu = rw (← c, h .is, h .kind, ← eu) (together u (readInfo l (typeNumber t) b (drop p b)))
+    frame-is u eu = rw (← c, h .is, h .kind, ← eu) (together u (readInfo mended l (typeNumber t) b (drop p b)))
       where
         together : (u : List ℕ) (o : Option (List ℕ)) → (o >>= (λ i. some (fields ++ (u ++ i)))) ≡ (o >>= (λ i. some ((fields ++ u) ++ i)))
         together u none = refl
         together u (some i) = ap some (sym (append-assoc fields u i))
 
     pub frame-some : (e : List ℕ) (v : ℕ) → Wrote mid q (pick (odd (header / 64)) (0x03 ∷ 0xF0 ∷ []) []) e v → (d : List ℕ) (r : Got)
-        → Reads (readInfo l (typeNumber t) b (drop p b)) e v d r → Reads (readFrame l header b) out 0 d r
+        → Reads (readInfo mended l (typeNumber t) b (drop p b)) e v d r → Reads (readFrame mended l header b) out 0 d r
     unfolding fields
     frame-some e v w d r k =
         let u : List ℕ = pick (odd (header / 64)) (0x03 ∷ 0xF0 ∷ []) [] in
         subst (λ (x : Option (List ℕ)). Reads x out 0 d r) (sym (frame-is u refl))
-        (reads-then (wrote-then (h .wrote) w) (readInfo l (typeNumber t) b (drop p b)) d r k)
+        (reads-then (wrote-then (h .wrote) w) (readInfo mended l (typeNumber t) b (drop p b)) d r k)

@@ -13,7 +13,7 @@ use Rattle.laws.specs.Bits.{odd}
 use Rattle.laws.specs.Pick.{pick}
 use Rattle.laws.specs.Text.{ascii, starts}
 use Rattle.laws.specs.Wrote.{Wrote}
-use Rattle.laws.proofs.Cases.{by-test, from-some, pick-true, pick-false}
+use Rattle.laws.proofs.Cases.{by-test, by-option, from-some, pick-true, pick-false}
 use Rattle.laws.proofs.WroteLaws.{wrote-then, wrote-as}
 use Rattle.bits.specs.Read.{takeBits, taken}
 use Rattle.bits.specs.declared.read.Taken.the-variants.{Bits, Short}
@@ -30,10 +30,6 @@ use Rattle.ax25_decode.specs.declared.Typed.{Typed}
 use Rattle.ax25_decode.specs.declared.Typed.the-variants.{Is, Nothing}
 use Rattle.ax25.proofs.PlainLaws.{odd-yes}
 use Rattle.ax25_decode.proofs.ReaderLaws.{field-size, tokens-count, alias-count}
-
-by-option : {A : Type 0} {P : Type 0} (o : Option A) → (o ≡ none → P) → ((a : A) → o ≡ some a → P) → P
-by-option none f g = f refl
-by-option (some a) f g = g a refl
 
 -- ---- the type
 
@@ -78,26 +74,26 @@ module _ (x : Bool) (b : List Bool) (at n : ℕ) (w : n ≡ typeWidth x) where
 
 -- ---- the parts of a head
 
-module _ (l : ℕ) (r : List Bool) where
-  ends-is : {P : Type 0} (x : List ℕ × List ℕ) (e : List Bool) → readEnds l r ≡ some (x, e)
-      → ((m : List Bool) → readToken l r ≡ some (x .0, m) → readToken l m ≡ some (x .1, e) → P) → P
+module _ (mended : Bool) (l : ℕ) (r : List Bool) where
+  ends-is : {P : Type 0} (x : List ℕ × List ℕ) (e : List Bool) → readEnds mended l r ≡ some (x, e)
+      → ((m : List Bool) → readToken mended l r ≡ some (x .0, m) → readToken mended l m ≡ some (x .1, e) → P) → P
   unfolding readEnds
   ends-is x e u k =
-      from-some (readToken l r) _ (x, e) u
-      (λ p ep f. from-some (readToken l (p .1)) _ (x, e) f
+      from-some (readToken mended l r) _ (x, e) u
+      (λ p ep f. from-some (readToken mended l (p .1)) _ (x, e) f
       (λ q eq g.
       let s = Option·some-injective ((p .0, q .0), q .1) (x, e) g in
       k (p .1)
       (ep ∙ ap (λ (z : (List ℕ × List ℕ) × List Bool). some (z .0 .0, p .1)) s)
       (eq ∙ ap (λ (z : (List ℕ × List ℕ) × List Bool). some (z .0 .1, z .1)) s)))
 
-  ends-not : {P : Type 0} → readEnds l r ≡ none → (readToken l r ≡ none → P) → ((p : List ℕ × List Bool) → readToken l r ≡ some p → readToken l (p .1) ≡ none → P) → P
+  ends-not : {P : Type 0} → readEnds mended l r ≡ none → (readToken mended l r ≡ none → P) → ((p : List ℕ × List Bool) → readToken mended l r ≡ some p → readToken mended l (p .1) ≡ none → P) → P
   unfolding readEnds
   ends-not u f g =
-      by-option (readToken l r) f
-      (λ p e. by-option (readToken l (p .1)) (g p e)
+      by-option (readToken mended l r) f
+      (λ p e. by-option (readToken mended l (p .1)) (g p e)
       (λ q k.
-      let both : readEnds l r ≡ some ((p .0, q .0), q .1) = rw (e, k) in
+      let both : readEnds mended l r ≡ some ((p .0, q .0), q .1) = rw (e, k) in
       absurd (Option·none-ne-some ((p .0, q .0), q .1) (sym u ∙ both))))
 
 module _ (x : Bool) (r : List Bool) where
@@ -121,25 +117,25 @@ module _ (x : Bool) (r : List Bool) where
       k (et ∙ ap some s) (sym (ap (λ (z : ℕ × List Bool). known (z .0)) s) ∙ y))
       (λ y. absurd (Option·none-ne-some (v, e) (rw y at f))))
 
-alias-all : (l n : ℕ) (r : List Bool) (p : List (List ℕ) × List Bool) → readAlias l n r ≡ some p → length (p .0) ≡ n
+alias-all : (n : ℕ) (r : List Bool) (p : List (List ℕ) × List Bool) → readAlias n r ≡ some p → length (p .0) ≡ n
 unfolding readAlias
-alias-all l n r p u =
+alias-all n r p u =
     from-some (takeBits 3 r) _ p u
     (λ t et f. from-some (nameAt (t .0) aliases) _ p f
     (λ a ea g. rw (← Option·some-injective (aliasCalls a 1 n, t .1) p g) (alias-count a 1 n)))
 
-aliased-all : (l n : ℕ) (r : List Bool) (p : List (List ℕ) × List Bool) → readAliased l n r ≡ some p → length (p .0) ≡ n
+aliased-all : (mended : Bool) (l n : ℕ) (r : List Bool) (p : List (List ℕ) × List Bool) → readAliased mended l n r ≡ some p → length (p .0) ≡ n
 unfolding readAliased pick
-aliased-all l n [] p u = absurd (Option·none-ne-some p u)
-aliased-all l n (true ∷ r) p u = alias-all l n r p u
-aliased-all l n (false ∷ r) p u = tokens-count l n r p u
+aliased-all mended l n [] p u = absurd (Option·none-ne-some p u)
+aliased-all mended l n (true ∷ r) p u = alias-all n r p u
+aliased-all mended l n (false ∷ r) p u = tokens-count mended l n r p u
 
 -- as many digipeaters as were asked for
-digis-count : (l : ℕ) (x : Bool) (n : ℕ) (r : List Bool) (p : List (List ℕ) × List Bool) → readDigis l x n r ≡ some p → length (p .0) ≡ n
+digis-count : (mended : Bool) (l : ℕ) (x : Bool) (n : ℕ) (r : List Bool) (p : List (List ℕ) × List Bool) → readDigis mended l x n r ≡ some p → length (p .0) ≡ n
 unfolding readDigis pick
-digis-count l x zero r p u = rw (← Option·some-injective ([], r) p u)
-digis-count l true (suc n) r p u = aliased-all l (suc n) r p u
-digis-count l false (suc n) r p u = tokens-count l (suc n) r p u
+digis-count mended l x zero r p u = rw (← Option·some-injective ([], r) p u)
+digis-count mended l true (suc n) r p u = aliased-all mended l (suc n) r p u
+digis-count mended l false (suc n) r p u = tokens-count mended l (suc n) r p u
 
 no-digis : (v : List (List ℕ)) (n : ℕ) → length v ≡ n → eqb n 0 ≡ isEmpty v
 no-digis [] n e = rw (← e)
@@ -147,8 +143,8 @@ no-digis (c ∷ v) n e = ne-eqb n 0 (omega (arith, e))
 
 -- ---- the head
 
-module _ (l n : ℕ) (b : List Bool) where
-  pub head-short : length b < n → readHead l n b ≡ none
+module _ (mended : Bool) (l n : ℕ) (b : List Bool) where
+  pub head-short : length b < n → readHead mended l n b ≡ none
   unfolding readHead splitOff pick
   head-short h = rw (lt-leb n (length b) h)
 
@@ -157,24 +153,24 @@ module _ (l n : ℕ) (b : List Bool) where
     unfolding splitOff pick
     split-is = rw (le-leb n (length b) h)
 
-    pub head-ends : readEnds l (drop n b) ≡ none → readHead l n b ≡ none
+    pub head-ends : readEnds mended l (drop n b) ≡ none → readHead mended l n b ≡ none
     unfolding readHead
-    head-ends u = ends-not l (drop n b) u (λ e. rw (split-is, e)) (λ p e k. rw (split-is, e, k))
+    head-ends u = ends-not mended l (drop n b) u (λ e. rw (split-is, e)) (λ p e k. rw (split-is, e, k))
 
-    module _ (x : List ℕ × List ℕ) (r : List Bool) (ex : readEnds l (drop n b) ≡ some (x, r)) (y : Bool) (ey : y ≡ apIn (readToken l (drop n b))) where
+    module _ (x : List ℕ × List ℕ) (r : List Bool) (ex : readEnds mended l (drop n b) ≡ some (x, r)) (y : Bool) (ey : y ≡ apIn (readToken mended l (drop n b))) where
       starts-is : y ≡ starts (ascii "AP") (x .0)
       unfolding apIn
-      starts-is = ends-is l (drop n b) x r ex (λ m e k. ey ∙ rw e)
+      starts-is = ends-is mended l (drop n b) x r ex (λ m e k. ey ∙ rw e)
 
-      pub head-digis : readDigis l y n r ≡ none → readHead l n b ≡ none
+      pub head-digis : readDigis mended l y n r ≡ none → readHead mended l n b ≡ none
       unfolding readHead
-      head-digis u = ends-is l (drop n b) x r ex (λ m e k. rw (split-is, e, k, ← starts-is, u))
+      head-digis u = ends-is mended l (drop n b) x r ex (λ m e k. rw (split-is, e, k, ← starts-is, u))
 
-      module _ (v : List (List ℕ)) (q : List Bool) (ev : readDigis l y n r ≡ some (v, q)) where
-        pub head-type : readType y q ≡ none → readHead l n b ≡ none
+      module _ (v : List (List ℕ)) (q : List Bool) (ev : readDigis mended l y n r ≡ some (v, q)) where
+        pub head-type : readType y q ≡ none → readHead mended l n b ≡ none
         unfolding readHead pick
         head-type u =
-            ends-is l (drop n b) x r ex
+            ends-is mended l (drop n b) x r ex
             (λ m e k. type-not y q u
             (λ f. rw (split-is, e, k, ← starts-is, ev, f))
             (λ t f g. rw (split-is, e, k, ← starts-is, ev, f, g)))
@@ -182,27 +178,27 @@ module _ (l n : ℕ) (b : List Bool) where
         abbrev headIs : ℕ → Head
         headIs t = record { dest = x .0; src = x .1; digis = v; heard = take n b; typ = t }
 
-        head-is : (t : ℕ) (z : List Bool) → readType y q ≡ some (t, z) → readHead l n b ≡ some (headIs t, z)
+        head-is : (t : ℕ) (z : List Bool) → readType y q ≡ some (t, z) → readHead mended l n b ≡ some (headIs t, z)
         unfolding readHead pick
         head-is t z u =
-            ends-is l (drop n b) x r ex
+            ends-is mended l (drop n b) x r ex
             (λ m e k. type-is y q t z u
             (λ f g. rw (split-is, e, k, ← starts-is, ev, f, g)))
 
         bytes-are : endsBytes l (eqb n 0) x ++ digiBytes l b n 0 v ≡ addresses l (x .0 ∷ x .1 ∷ v) (false ∷ false ∷ take n b)
         unfolding endsBytes digiBytes addresses fieldOf
         bytes-are =
-            rw (no-digis v n (digis-count l y n r (v, q) ev))
+            rw (no-digis v n (digis-count mended l y n r (v, q) ev))
             (append-assoc (fieldOf l false false (x .0)) (fieldOf l false (isEmpty v) (x .1)) (addresses l v (take n b)))
 
         pub head-some : (typ : AprsType) (p : ℕ) → readType y q ≡ some (typeNumber typ, drop p b) → p ≤ length b → n ≤ 8 → (out mid e : List ℕ) (i j : ℕ)
-            → Wrote out 0 (endsBytes l (eqb n 0) x) mid i → Wrote mid i (digiBytes l b n 0 v) e j → HeadRead l b (readHead l n b) out e p j typ
+            → Wrote out 0 (endsBytes l (eqb n 0) x) mid i → Wrote mid i (digiBytes l b n 0 v) e j → HeadRead l b (readHead mended l n b) out e p j typ
         head-some typ p u k m out mid e i j w g =
             record {
               head = headIs (typeNumber typ);
               is = head-is (typeNumber typ) (drop p b) u;
               reaches = k;
-              few = omega (arith, m, digis-count l y n r (v, q) ev);
+              few = omega (arith, m, digis-count mended l y n r (v, q) ev);
               kind = refl;
               wrote = wrote-as bytes-are (wrote-then w g);
             }

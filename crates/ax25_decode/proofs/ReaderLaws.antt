@@ -101,13 +101,13 @@ module _ (b : List Bool) (o : Option (List ℕ × List Bool)) (r : Decoded) (tol
 
 -- ---- destination and source
 
-module _ (l : ℕ) (last : Bool) (b : List Bool) (r : List Bool) (out : List ℕ) (to : ℕ) where
-  pub ends-none : readToken l r ≡ none → readEnds l r ≡ none
+module _ (mended : Bool) (l : ℕ) (last : Bool) (b : List Bool) (r : List Bool) (out : List ℕ) (to : ℕ) where
+  pub ends-none : readToken mended l r ≡ none → readEnds mended l r ≡ none
   unfolding readEnds
   ends-none u = rw u
 
-  pub ends-then : (mid : List ℕ) (p q : ℕ) → Took (fieldOf l false false) b (readToken l r) out to mid p q → (e : List ℕ) (a : Read)
-      → ReadsTo (fieldOf l false last) b (readToken l (drop p b)) mid q e a → ReadsTo (endsBytes l last) b (readEnds l r) out to e a
+  pub ends-then : (mid : List ℕ) (p q : ℕ) → Took (fieldOf l false false) b (readToken mended l r) out to mid p q → (e : List ℕ) (a : Read)
+      → ReadsTo (fieldOf l false last) b (readToken mended l (drop p b)) mid q e a → ReadsTo (endsBytes l last) b (readEnds mended l r) out to e a
   unfolding readEnds endsBytes
   ends-then mid p q t e (Next u v) k = record { value = (t .value, k .value); is = rw (t .is, k .is); wrote = wrote-then (t .wrote) (k .wrote) }
   ends-then mid p q t e Nothing k = rw (t .is, k)
@@ -136,49 +136,49 @@ last-is (c ∷ cs) m e = ne-eqb (suc m) 1 (omega (arith, e))
 
 -- ---- digipeaters by tokens
 
-pub tokens-count : (l m : ℕ) (b : List Bool) (p : List (List ℕ) × List Bool) → readTokens l m b ≡ some p → length (p .0) ≡ m
+pub tokens-count : (mended : Bool) (l m : ℕ) (b : List Bool) (p : List (List ℕ) × List Bool) → readTokens mended l m b ≡ some p → length (p .0) ≡ m
 unfolding readTokens
-tokens-count l zero b p e = rw (← Option·some-injective ([], b) p e)
-tokens-count l (suc m) b p e =
-    from-some (readToken l b) _ p e
-    (λ c ec f. from-some (readTokens l m (c .1)) _ p f
-    (λ cs ecs g. rw (← Option·some-injective (c .0 ∷ cs .0, cs .1) p g) (ap suc (tokens-count l m (c .1) cs ecs))))
+tokens-count mended l zero b p e = rw (← Option·some-injective ([], b) p e)
+tokens-count mended l (suc m) b p e =
+    from-some (readToken mended l b) _ p e
+    (λ c ec f. from-some (readTokens mended l m (c .1)) _ p f
+    (λ cs ecs g. rw (← Option·some-injective (c .0 ∷ cs .0, cs .1) p g) (ap suc (tokens-count mended l m (c .1) cs ecs))))
 
-tokens-suc : (l m k : ℕ) (b r : List Bool) (out mid : List ℕ) (to p q : ℕ) → Took (fieldOf l (getD b k false) (eqb (suc m) 1)) b (readToken l r) out to mid p q
-    → (e : List ℕ) (a : Read) → ReadsTo (digiBytes l b m (k + 1)) b (readTokens l m (drop p b)) mid q e a
-    → ReadsTo (digiBytes l b (suc m) k) b (readTokens l (suc m) r) out to e a
+tokens-suc : (mended : Bool) (l m k : ℕ) (b r : List Bool) (out mid : List ℕ) (to p q : ℕ) → Took (fieldOf l (getD b k false) (eqb (suc m) 1)) b (readToken mended l r) out to mid p q
+    → (e : List ℕ) (a : Read) → ReadsTo (digiBytes l b m (k + 1)) b (readTokens mended l m (drop p b)) mid q e a
+    → ReadsTo (digiBytes l b (suc m) k) b (readTokens mended l (suc m) r) out to e a
 unfolding readTokens
-tokens-suc l m k b r out mid to p q t e (Next u v) d =
+tokens-suc mended l m k b r out mid to p q t e (Next u v) d =
     let same : fieldOf l (getD b k false) (eqb (suc m) 1) (t .value) ++ digiBytes l b m (k + 1) (d .value) ≡ digiBytes l b (suc m) k (t .value ∷ d .value) =
-    ap (λ (x : Bool). fieldOf l (getD b k false) x (t .value) ++ digiBytes l b m (k + 1) (d .value)) (last-is (d .value) m (tokens-count l m (drop p b) (d .value, drop u b) (d .is)))
+    ap (λ (x : Bool). fieldOf l (getD b k false) x (t .value) ++ digiBytes l b m (k + 1) (d .value)) (last-is (d .value) m (tokens-count mended l m (drop p b) (d .value, drop u b) (d .is)))
     ∙ sym (digis-cons l b m k (t .value) (d .value)) in
     record { value = t .value ∷ d .value; is = rw (t .is, d .is); wrote = wrote-as same (wrote-then (t .wrote) (d .wrote)) }
-tokens-suc l m k b r out mid to p q t e Nothing d = rw (t .is, d)
+tokens-suc mended l m k b r out mid to p q t e Nothing d = rw (t .is, d)
 
-tokens-bad : (l m : ℕ) (r : List Bool) → readToken l r ≡ none → readTokens l (suc m) r ≡ none
+tokens-bad : (mended : Bool) (l m : ℕ) (r : List Bool) → readToken mended l r ≡ none → readTokens mended l (suc m) r ≡ none
 unfolding readTokens
-tokens-bad l m r u = rw u
+tokens-bad mended l m r u = rw u
 
-module _ (l n k : ℕ) (b : List Bool) where
-  pub tokens-end : (at : ℕ) (out : List ℕ) (to : ℕ) → n ≡ 0 → Took (digiBytes l b n k) b (readTokens l n (drop at b)) out to out at to
+module _ (mended : Bool) (l n k : ℕ) (b : List Bool) where
+  pub tokens-end : (at : ℕ) (out : List ℕ) (to : ℕ) → n ≡ 0 → Took (digiBytes l b n k) b (readTokens mended l n (drop at b)) out to out at to
   unfolding readTokens digiBytes addresses
   tokens-end at out to z = record { value = []; is = rw z; wrote = wrote-none }
 
   module _ (r : List Bool) (h : n ≡ 0 → ⊥) where
-    pub tokens-none : readToken l r ≡ none → readTokens l n r ≡ none
+    pub tokens-none : readToken mended l r ≡ none → readTokens mended l n r ≡ none
     tokens-none u =
         let s : suc (n - 1) ≡ n = omega (arith, h) in
-        subst (λ (x : ℕ). readTokens l x r ≡ none) s (tokens-bad l (n - 1) r u)
+        subst (λ (x : ℕ). readTokens mended l x r ≡ none) s (tokens-bad mended l (n - 1) r u)
 
-    pub tokens-more : (x : Bool) → x ≡ getD b k false → (out mid : List ℕ) (to p q : ℕ) → Took (fieldOf l x (eqb n 1)) b (readToken l r) out to mid p q
-        → (e : List ℕ) (a : Read) → ReadsTo (digiBytes l b (n - 1) (k + 1)) b (readTokens l (n - 1) (drop p b)) mid q e a
-        → ReadsTo (digiBytes l b n k) b (readTokens l n r) out to e a
+    pub tokens-more : (x : Bool) → x ≡ getD b k false → (out mid : List ℕ) (to p q : ℕ) → Took (fieldOf l x (eqb n 1)) b (readToken mended l r) out to mid p q
+        → (e : List ℕ) (a : Read) → ReadsTo (digiBytes l b (n - 1) (k + 1)) b (readTokens mended l (n - 1) (drop p b)) mid q e a
+        → ReadsTo (digiBytes l b n k) b (readTokens mended l n r) out to e a
     tokens-more x ex out mid to p q t e a d =
         let s : suc (n - 1) ≡ n = omega (arith, h) in
-        let first : Took (fieldOf l (getD b k false) (eqb (suc (n - 1)) 1)) b (readToken l r) out to mid p q =
-        subst (λ (y : Bool). Took (fieldOf l y (eqb (suc (n - 1)) 1)) b (readToken l r) out to mid p q) ex
-        (subst (λ (m : ℕ). Took (fieldOf l x (eqb m 1)) b (readToken l r) out to mid p q) (sym s) t) in
-        subst (λ (x : ℕ). ReadsTo (digiBytes l b x k) b (readTokens l x r) out to e a) s (tokens-suc l (n - 1) k b r out mid to p q first e a d)
+        let first : Took (fieldOf l (getD b k false) (eqb (suc (n - 1)) 1)) b (readToken mended l r) out to mid p q =
+        subst (λ (y : Bool). Took (fieldOf l y (eqb (suc (n - 1)) 1)) b (readToken mended l r) out to mid p q) ex
+        (subst (λ (m : ℕ). Took (fieldOf l x (eqb m 1)) b (readToken mended l r) out to mid p q) (sym s) t) in
+        subst (λ (x : ℕ). ReadsTo (digiBytes l b x k) b (readTokens mended l x r) out to e a) s (tokens-suc mended l (n - 1) k b r out mid to p q first e a d)
 
 -- ---- digipeaters by alias
 
@@ -238,25 +238,25 @@ unfolding aliases
 five-names = refl
 
 module _ (l n : ℕ) (r : List Bool) where
-  pub alias-short : takeBits 3 r ≡ none → readAlias l n r ≡ none
+  pub alias-short : takeBits 3 r ≡ none → readAlias n r ≡ none
   unfolding readAlias
   alias-short u = rw u
 
   module _ (i : ℕ) (e : List Bool) (u : takeBits 3 r ≡ some (i, e)) where
-    alias-unnamed : nameAt i aliases ≡ none → readAlias l n r ≡ none
+    alias-unnamed : nameAt i aliases ≡ none → readAlias n r ≡ none
     unfolding readAlias
     alias-unnamed v = rw (u, v)
 
-    pub alias-zero : i ≡ 0 → readAlias l n r ≡ none
+    pub alias-zero : i ≡ 0 → readAlias n r ≡ none
     alias-zero z = alias-unnamed (ap (λ (x : ℕ). nameAt x aliases) z ∙ name-zero aliases)
 
-    pub alias-past : 5 < i → readAlias l n r ≡ none
+    pub alias-past : 5 < i → readAlias n r ≡ none
     alias-past h =
         let s : i ≡ suc (i - 1) = omega (arith, h) in
         alias-unnamed (ap (λ (x : ℕ). nameAt x aliases) s ∙ name-past (i - 1) aliases (omega (arith, five-names, h)))
 
   pub alias-read : (b : List Bool) (i p : ℕ) → takeBits 3 r ≡ some (i, drop p b) → (i ≡ 0 → ⊥) → i ≤ 5 → (out e : List ℕ) (to q : ℕ)
-      → Wrote out to (digiBytes l b n 0 (aliasCalls (getD aliases (i - 1) []) (0 + 1) n)) e q → Took (digiBytes l b n 0) b (readAlias l n r) out to e p q
+      → Wrote out to (digiBytes l b n 0 (aliasCalls (getD aliases (i - 1) []) (0 + 1) n)) e q → Took (digiBytes l b n 0) b (readAlias n r) out to e p q
   unfolding readAlias
   alias-read b i p u z h out e to q w =
       let s : i ≡ suc (i - 1) = omega (arith, z) in
@@ -281,41 +281,41 @@ take-one x r v e u =
 take-empty : takeBits 1 [] ≡ none
 take-empty = take-no 1 [] (omega arith)
 
-pub aliased-short : (l n : ℕ) (r : List Bool) → takeBits 1 r ≡ none → readAliased l n r ≡ none
+pub aliased-short : (mended : Bool) (l n : ℕ) (r : List Bool) → takeBits 1 r ≡ none → readAliased mended l n r ≡ none
 unfolding readAliased
-aliased-short l n [] u = refl
-aliased-short l n (x ∷ r) u = absurd (Option·none-ne-some (num x, r) (sym u ∙ take-cons x r))
+aliased-short mended l n [] u = refl
+aliased-short mended l n (x ∷ r) u = absurd (Option·none-ne-some (num x, r) (sym u ∙ take-cons x r))
 
-pub aliased-yes : (l n : ℕ) (r : List Bool) (v : ℕ) (e : List Bool) → takeBits 1 r ≡ some (v, e) → v ≡ 1 → readAliased l n r ≡ readAlias l n e
+pub aliased-yes : (mended : Bool) (l n : ℕ) (r : List Bool) (v : ℕ) (e : List Bool) → takeBits 1 r ≡ some (v, e) → v ≡ 1 → readAliased mended l n r ≡ readAlias n e
 unfolding readAliased pick num
-aliased-yes l n [] v e u h = absurd (Option·none-ne-some (v, e) (sym take-empty ∙ u))
-aliased-yes l n (true ∷ r) v e u h = ap (readAlias l n) (take-one true r v e u .1)
-aliased-yes l n (false ∷ r) v e u h = absurd (zero-one (take-one false r v e u .0 ∙ h))
+aliased-yes mended l n [] v e u h = absurd (Option·none-ne-some (v, e) (sym take-empty ∙ u))
+aliased-yes mended l n (true ∷ r) v e u h = ap (readAlias n) (take-one true r v e u .1)
+aliased-yes mended l n (false ∷ r) v e u h = absurd (zero-one (take-one false r v e u .0 ∙ h))
   where
     zero-one : _≡_ {A = ℕ} 0 1 → ⊥
     zero-one q = omega (arith, q)
 
-pub aliased-no : (l n : ℕ) (r : List Bool) (v : ℕ) (e : List Bool) → takeBits 1 r ≡ some (v, e) → (v ≡ 1 → ⊥) → readAliased l n r ≡ readTokens l n e
+pub aliased-no : (mended : Bool) (l n : ℕ) (r : List Bool) (v : ℕ) (e : List Bool) → takeBits 1 r ≡ some (v, e) → (v ≡ 1 → ⊥) → readAliased mended l n r ≡ readTokens mended l n e
 unfolding readAliased pick num
-aliased-no l n [] v e u h = absurd (Option·none-ne-some (v, e) (sym take-empty ∙ u))
-aliased-no l n (true ∷ r) v e u h = absurd (h (sym (take-one true r v e u .0)))
-aliased-no l n (false ∷ r) v e u h = ap (readTokens l n) (take-one false r v e u .1)
+aliased-no mended l n [] v e u h = absurd (Option·none-ne-some (v, e) (sym take-empty ∙ u))
+aliased-no mended l n (true ∷ r) v e u h = absurd (h (sym (take-one true r v e u .0)))
+aliased-no mended l n (false ∷ r) v e u h = ap (readTokens mended l n) (take-one false r v e u .1)
 
 -- ---- the digipeaters
 
-module _ (l : ℕ) (ap? : Bool) (n : ℕ) where
-  pub digis-end : (b : List Bool) (at : ℕ) (out : List ℕ) (to : ℕ) → n ≡ 0 → Took (digiBytes l b n 0) b (readDigis l ap? n (drop at b)) out to out at to
+module _ (mended : Bool) (l : ℕ) (ap? : Bool) (n : ℕ) where
+  pub digis-end : (b : List Bool) (at : ℕ) (out : List ℕ) (to : ℕ) → n ≡ 0 → Took (digiBytes l b n 0) b (readDigis mended l ap? n (drop at b)) out to out at to
   unfolding readDigis digiBytes addresses
   digis-end b at out to z = record { value = []; is = rw z; wrote = wrote-none }
 
   module _ (r : List Bool) (h : n ≡ 0 → ⊥) where
-    pub digis-aliased : ap? ≡ true → readDigis l ap? n r ≡ readAliased l n r
+    pub digis-aliased : ap? ≡ true → readDigis mended l ap? n r ≡ readAliased mended l n r
     unfolding readDigis pick
     digis-aliased t =
         let s : n ≡ suc (n - 1) = omega (arith, h) in
         rw (t, s)
 
-    pub digis-tokens : ap? ≡ false → readDigis l ap? n r ≡ readTokens l n r
+    pub digis-tokens : ap? ≡ false → readDigis mended l ap? n r ≡ readTokens mended l n r
     unfolding readDigis pick
     digis-tokens t =
         let s : n ≡ suc (n - 1) = omega (arith, h) in

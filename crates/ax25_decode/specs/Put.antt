@@ -45,10 +45,10 @@ apIn none = false
 apIn (some p) = starts (ascii "AP") (p .0)
 
 -- destination and source
-unfoldable pub readEnds : ℕ → List Bool → Option ((List ℕ × List ℕ) × List Bool)
-readEnds l b = do
-  (d, r) ← readToken l b
-  (s, e) ← readToken l r
+unfoldable pub readEnds : Bool → ℕ → List Bool → Option ((List ℕ × List ℕ) × List Bool)
+readEnds mended l b = do
+  (d, r) ← readToken mended l b
+  (s, e) ← readToken mended l r
   some ((d, s), e)
 
 unfoldable pub endsBytes : ℕ → Bool → (List ℕ × List ℕ) → List ℕ

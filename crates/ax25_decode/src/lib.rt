@@ -8,7 +8,7 @@ ghost use lib.ListN.{length, getD, drop};
 ghost use Rattle.laws.specs.Bits.{odd, unpack};
 ghost use Rattle.laws.specs.Pick.{pick};
 ghost use Rattle.laws.specs.Wrote.{Wrote};
-ghost use Rattle.bits.specs.Read.{took, afterOf};
+ghost use Rattle.bits.specs.Read.{took};
 ghost use Rattle.ax25_token.specs.Token.{readToken};
 ghost use Rattle.ax25_address.specs.Parse.{aliases, aliasCalls};
 ghost use Rattle.ax25_address.specs.Kind.{typeNumber};
@@ -29,8 +29,7 @@ use ax25_token::encode::call_starts;
 use ax25_token::token_decode;
 use bits::read::Got;
 use bits::read::Taken;
-use bits::reader::Reader;
-use bits::reader::Two;
+use bits::reader::bit_take_at;
 
 // The next position and the next place, or nothing to read.
 pub enum Read {
@@ -75,11 +74,12 @@ fn read_address(
     last: bool,
     out: &mut [u8],
     to: usize,
+    mended: bool,
 ) -> Read
     requires { ⌜ (length (now s) < 5000) × (2 ≤ l) × (l ≤ 7) × (to < 2 ^ 20) ⌝ }
-    ensures { λ r. ⌜ ReadsTo (fieldOf l h last) (unpack (now (s .entry))) (readToken l (drop at (unpack (now (s .entry))))) (now (out .entry)) to (now (out .exit)) r ⌝ }
+    ensures { λ r. ⌜ ReadsTo (fieldOf l h last) (unpack (now (s .entry))) (readToken mended l (drop at (unpack (now (s .entry))))) (now (out .entry)) to (now (out .exit)) r ⌝ }
 {
-    let t = token_decode(s, at, l);
+    let t = token_decode(s, at, l, mended);
     let token = t.token;
     let Token::Next(p) = token else {
         return Read::Nothing;
@@ -89,11 +89,11 @@ fn read_address(
 }
 
 // The call at a position starts with AP.
-fn is_ap(s: &[u8], at: usize, l: usize) -> bool
+fn is_ap(s: &[u8], at: usize, l: usize, mended: bool) -> bool
     requires { ⌜ (length (now s) < 5000) × (2 ≤ l) × (l ≤ 7) ⌝ }
-    ensures { λ r. ⌜ r ≡ apIn (readToken l (drop at (unpack (now (s .entry))))) ⌝ }
+    ensures { λ r. ⌜ r ≡ apIn (readToken mended l (drop at (unpack (now (s .entry))))) ⌝ }
 {
-    let t = token_decode(s, at, l);
+    let t = token_decode(s, at, l, mended);
     let token = t.token;
     let Token::Next(_) = token else {
         return false;
@@ -103,28 +103,37 @@ fn is_ap(s: &[u8], at: usize, l: usize) -> bool
 }
 
 // Destination and source; the source is the last address where there are no digipeaters.
-fn read_ends(s: &[u8], at: usize, l: usize, last: bool, out: &mut [u8]) -> Read
+fn read_ends(s: &[u8], at: usize, l: usize, last: bool, out: &mut [u8], mended: bool) -> Read
     requires { ⌜ (length (now s) < 5000) × (2 ≤ l) × (l ≤ 7) ⌝ }
-    ensures { λ r. ⌜ ReadsTo (endsBytes l last) (unpack (now (s .entry))) (readEnds l (drop at (unpack (now (s .entry))))) (now (out .entry)) 0 (now (out .exit)) r ⌝ }
+    ensures { λ r. ⌜ ReadsTo (endsBytes l last) (unpack (now (s .entry))) (readEnds mended l (drop at (unpack (now (s .entry))))) (now (out .entry)) 0 (now (out .exit)) r ⌝ }
 {
-    let Read::Next(p, q) = read_address(s, at, l, false, false, out, 0) else {
+    let Read::Next(p, q) = read_address(s, at, l, false, false, out, 0, mended) else {
         return Read::Nothing;
     };
-    read_address(s, p, l, false, last, out, q)
+    read_address(s, p, l, false, last, out, q, mended)
 }
 
 // n digipeaters by tokens, the first with the H bit at k.
-fn read_tokens(s: &[u8], at: usize, l: usize, n: usize, k: usize, out: &mut [u8], to: usize) -> Read
+fn read_tokens(
+    s: &[u8],
+    at: usize,
+    l: usize,
+    n: usize,
+    k: usize,
+    out: &mut [u8],
+    to: usize,
+    mended: bool,
+) -> Read
     requires { ⌜ (length (now s) < 5000) × (2 ≤ l) × (l ≤ 7) × (k + n ≤ length (now s) * 8) × (to + n * 8 < 2 ^ 20) ⌝ }
-    ensures { λ r. ⌜ ReadsTo (digiBytes l (unpack (now (s .entry))) n k) (unpack (now (s .entry))) (readTokens l n (drop at (unpack (now (s .entry))))) (now (out .entry)) to (now (out .exit)) r ⌝ }
+    ensures { λ r. ⌜ ReadsTo (digiBytes l (unpack (now (s .entry))) n k) (unpack (now (s .entry))) (readTokens mended l n (drop at (unpack (now (s .entry))))) (now (out .entry)) to (now (out .exit)) r ⌝ }
 {
     if n == 0 {
         return Read::Next(at, to);
     }
-    let Read::Next(p, q) = read_address(s, at, l, field::bit(s, k), n == 1, out, to) else {
+    let Read::Next(p, q) = read_address(s, at, l, field::bit(s, k), n == 1, out, to, mended) else {
         return Read::Nothing;
     };
-    read_tokens(s, p, l, n - 1, k + 1, out, q)
+    read_tokens(s, p, l, n - 1, k + 1, out, q, mended)
 }
 
 // n calls of an alias, the first with the H bit at k and the number k + 1. The next place.
@@ -149,7 +158,7 @@ fn put_alias(s: &[u8], l: usize, i: usize, n: usize, k: usize, out: &mut [u8], t
 fn read_alias(s: &[u8], number: Taken, l: usize, n: usize, out: &mut [u8], to: usize) -> Read
     requires { ⌜ (length (now s) < 5000) × (l ≤ 7) × (n ≤ 8) × (n ≤ length (now s) * 8) × (to < 2 ^ 10) ⌝ }
     ensures { λ r. ⌜ ((at : ℕ) → number ≡ took 3 (unpack (now (s .entry))) at
-        → ReadsTo (digiBytes l (unpack (now (s .entry))) n 0) (unpack (now (s .entry))) (readAlias l n (drop at (unpack (now (s .entry))))) (now (out .entry)) to (now (out .exit)) r) ⌝ }
+        → ReadsTo (digiBytes l (unpack (now (s .entry))) n 0) (unpack (now (s .entry))) (readAlias n (drop at (unpack (now (s .entry))))) (now (out .entry)) to (now (out .exit)) r) ⌝ }
 {
     let Taken::Bits(i, p) = number else {
         return Read::Nothing;
@@ -163,23 +172,20 @@ fn read_alias(s: &[u8], number: Taken, l: usize, n: usize, out: &mut [u8], to: u
     Read::Next(p, put_alias(s, l, (i - 1) as usize, n, 0, out, to))
 }
 
-// The alias bit and the n bits after it, which are the alias's number where the bit is set: one reader takes both.
-fn alias_at(s: &[u8], at: usize, n: usize) -> Two
-    requires { ⌜ (n ≤ 64) × (length (now s) < 2 ^ 60) ⌝ }
-    ensures { λ r. ⌜ (r .first ≡ took 1 (unpack (now (s .entry))) at) × (r .second ≡ took n (unpack (now (s .entry))) (afterOf (r .first) at)) ⌝ }
-{
-    let mut r = Reader { bytes: s, at };
-    let first = r.bit();
-    let second = r.take(n);
-    Two { first, second }
-}
-
-// The alias bit, then the alias or the tokens.
-fn read_aliased(s: &[u8], at: usize, l: usize, n: usize, out: &mut [u8], to: usize) -> Read
+// The alias bit, then the alias or the tokens. Where the bit is set, the three bits after it are the alias's number.
+fn read_aliased(
+    s: &[u8],
+    at: usize,
+    l: usize,
+    n: usize,
+    out: &mut [u8],
+    to: usize,
+    mended: bool,
+) -> Read
     requires { ⌜ (length (now s) < 5000) × (2 ≤ l) × (l ≤ 7) × (n ≤ 8) × (n ≤ length (now s) * 8) × (to < 2 ^ 10) ⌝ }
-    ensures { λ r. ⌜ ReadsTo (digiBytes l (unpack (now (s .entry))) n 0) (unpack (now (s .entry))) (readAliased l n (drop at (unpack (now (s .entry))))) (now (out .entry)) to (now (out .exit)) r ⌝ }
+    ensures { λ r. ⌜ ReadsTo (digiBytes l (unpack (now (s .entry))) n 0) (unpack (now (s .entry))) (readAliased mended l n (drop at (unpack (now (s .entry))))) (now (out .entry)) to (now (out .exit)) r ⌝ }
 {
-    let t = alias_at(s, at, 3);
+    let t = bit_take_at(s, at, 3);
     let bit = t.first;
     let Taken::Bits(x, p) = bit else {
         return Read::Nothing;
@@ -188,21 +194,30 @@ fn read_aliased(s: &[u8], at: usize, l: usize, n: usize, out: &mut [u8], to: usi
         let number = t.second;
         return read_alias(s, number, l, n, out, to);
     }
-    read_tokens(s, p, l, n, 0, out, to)
+    read_tokens(s, p, l, n, 0, out, to, mended)
 }
 
 // The digipeaters; ap: the destination starts with AP.
-fn read_digis(s: &[u8], at: usize, l: usize, ap: bool, n: usize, out: &mut [u8], to: usize) -> Read
+fn read_digis(
+    s: &[u8],
+    at: usize,
+    l: usize,
+    ap: bool,
+    n: usize,
+    out: &mut [u8],
+    to: usize,
+    mended: bool,
+) -> Read
     requires { ⌜ (length (now s) < 5000) × (2 ≤ l) × (l ≤ 7) × (n ≤ 8) × (n ≤ length (now s) * 8) × (to < 2 ^ 10) ⌝ }
-    ensures { λ r. ⌜ ReadsTo (digiBytes l (unpack (now (s .entry))) n 0) (unpack (now (s .entry))) (readDigis l ap n (drop at (unpack (now (s .entry))))) (now (out .entry)) to (now (out .exit)) r ⌝ }
+    ensures { λ r. ⌜ ReadsTo (digiBytes l (unpack (now (s .entry))) n 0) (unpack (now (s .entry))) (readDigis mended l ap n (drop at (unpack (now (s .entry))))) (now (out .entry)) to (now (out .exit)) r ⌝ }
 {
     if n == 0 {
         return Read::Next(at, to);
     }
     if ap {
-        return read_aliased(s, at, l, n, out, to);
+        return read_aliased(s, at, l, n, out, to, mended);
     }
-    read_tokens(s, at, l, n, 0, out, to)
+    read_tokens(s, at, l, n, 0, out, to, mended)
 }
 
 // The type of a code.
@@ -242,18 +257,18 @@ fn read_type(s: &[u8], at: usize, ap: bool) -> Typed
 }
 
 // What stands before the body, for n digipeaters: H bits, destination, source, digipeaters, type.
-fn read_head(s: &[u8], l: usize, n: usize, out: &mut [u8]) -> Head
+fn read_head(s: &[u8], l: usize, n: usize, out: &mut [u8], mended: bool) -> Head
     requires { ⌜ (length (now s) < 5000) × (2 ≤ l) × (l ≤ 7) × (n ≤ 8) ⌝ }
-    ensures { λ r. ⌜ Heads l (unpack (now (s .entry))) (readHead l n (unpack (now (s .entry)))) (now (out .entry)) (now (out .exit)) r ⌝ }
+    ensures { λ r. ⌜ Heads l (unpack (now (s .entry))) (readHead mended l n (unpack (now (s .entry)))) (now (out .entry)) (now (out .exit)) r ⌝ }
 {
     if bits::reader::bits_in(s) < n {
         return Head::Nothing;
     }
-    let ap = is_ap(s, n, l);
-    let Read::Next(p, q) = read_ends(s, n, l, n == 0, out) else {
+    let ap = is_ap(s, n, l, mended);
+    let Read::Next(p, q) = read_ends(s, n, l, n == 0, out, mended) else {
         return Head::Nothing;
     };
-    let Read::Next(u, v) = read_digis(s, p, l, ap, n, out, q) else {
+    let Read::Next(u, v) = read_digis(s, p, l, ap, n, out, q, mended) else {
         return Head::Nothing;
     };
     let Typed::Is(typ, e) = read_type(s, u, ap) else {
@@ -294,26 +309,34 @@ fn read_bytes(s: &[u8], at: usize, out: &mut [u8], to: usize) -> usize
 }
 
 // The body of a type, from a position on; where there is none, nothing is said of the output.
-fn read_info(s: &[u8], at: usize, l: usize, typ: AprsType, out: &mut [u8], to: usize) -> Got
+fn read_info(
+    s: &[u8],
+    at: usize,
+    l: usize,
+    typ: AprsType,
+    out: &mut [u8],
+    to: usize,
+    mended: bool,
+) -> Got
     requires { ⌜ (length (now s) < 5000) × (at ≤ length (now s) * 8) × (2 ≤ l) × (l ≤ 7) × (to < 2 ^ 20) ⌝ }
-    ensures { λ r. ⌜ Reads (readInfo l (typeNumber typ) (unpack (now (s .entry))) (drop at (unpack (now (s .entry))))) (now (out .entry)) to (now (out .exit)) r ⌝ }
+    ensures { λ r. ⌜ Reads (readInfo mended l (typeNumber typ) (unpack (now (s .entry))) (drop at (unpack (now (s .entry))))) (now (out .entry)) to (now (out .exit)) r ⌝ }
 {
     match typ {
         AprsType::Text => bits::reader::text7_at(s, at, out, to),
         AprsType::Binary => Got::Next(read_bytes(s, at, out, to)),
-        AprsType::ThirdParty => third_decode(s, at, l, out, to),
-        _ => aprs_decode(typ, s, at, l, out, to),
+        AprsType::ThirdParty => third_decode(s, at, l, out, to, mended),
+        _ => aprs_decode(typ, s, at, l, out, to, mended),
     }
 }
 
-// The frame of a message whose header byte is given and whose other bytes are s, for calls of l letters. What lies past the end of out is not written.
-pub fn decode(s: &[u8], header: u8, l: usize, out: &mut [u8]) -> Got
+// The frame of a message whose header byte is given and whose other bytes are s, for calls of l letters, in the original reading of tokens or the mended one. What lies past the end of out is not written.
+pub fn decode(s: &[u8], header: u8, l: usize, out: &mut [u8], mended: bool) -> Got
     requires { ⌜ (length (now s) < 5000) × (2 ≤ l) × (l ≤ 7) ⌝ }
-    ensures { λ r. ⌜ Reads (readFrame l header (unpack (now (s .entry)))) (now (out .entry)) 0 (now (out .exit)) r ⌝ }
+    ensures { λ r. ⌜ Reads (readFrame mended l header (unpack (now (s .entry)))) (now (out .entry)) 0 (now (out .exit)) r ⌝ }
 {
-    let Head::Is(p, q, typ) = read_head(s, l, digi_count(header), out) else {
+    let Head::Is(p, q, typ) = read_head(s, l, digi_count(header), out, mended) else {
         return Got::Nothing;
     };
     let behind = put_ui(header, out, q);
-    read_info(s, p, l, typ, out, behind)
+    read_info(s, p, l, typ, out, behind, mended)
 }

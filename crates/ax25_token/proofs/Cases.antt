@@ -10,12 +10,13 @@ use native.Mathlib.Omega.{arith}
 use lib.ListN.{length, drop, getD, getElem?}
 use lib.Dec.{eqb, ltb}
 use borrow.Author.Tests.{eqb-true, eq-eqb, ne-eqb, lt-ltb, le-ltb}
-use Rattle.laws.specs.Bits.{bitsOf}
+use Rattle.laws.specs.Bits.{num, bitsOf, valueOf}
 use Rattle.laws.specs.Pick.{pick}
 use Rattle.laws.specs.Text.{ascii, upper, same, isOneOf, starts, later, position}
 use Rattle.laws.proofs.TextLaws.{below, at-each, same-eq}
-use Rattle.bits.specs.Read.{takeBits}
-use Rattle.bits.specs.Val.{valOf}
+use Rattle.bits.specs.Read.{letter, takeBits, takeText}
+use Rattle.bits.specs.Val.{stops, nextVal, valFrom, valOf}
+use Rattle.bits.proofs.ReadLaws.{take-yes, take-no, text-yes, text-no}
 use Rattle.ax25_token.specs.Tables.{callAlphabet, long, symOf, alphaOf, Numbered, wideTokens, wideRow, pairRows, fixedRows, numberedRows}
 use Rattle.ax25_token.specs.Token.{hyphened, baseOf, behind, numberAt, twoDigits, decimal, suffix, pairBits, takes, numberedBits, spell, ending, plainAp, apBits, spelledBits, tokenBits, after, Form, spelled, paired, named, counted, begun, noToken, pairForm, fixedForm, numberedForm, symbolForm, formOf, wideNumber, readPair, readNumber, letterOf, goOn, readLetters, readSpelled, readForm, readToken}
 
@@ -87,22 +88,57 @@ module _ (n : ℕ) (b : List Bool) where
     unfolding readSpelled
     spelled-whole v q f = rw (e, f)
 
+-- ---- the number after a digit, by the reading
+
+module _ (mended : Bool) (w : ℕ) (b : List Bool) where
+  pub wide-binary : mended ≡ true → wideNumber mended w b ≡ takeBits w b
+  unfolding wideNumber pick
+  wide-binary e = rw e
+
+  pub wide-text : mended ≡ false → wideNumber mended w b ≡ takeText w b
+  unfolding wideNumber pick
+  wide-text e = rw e
+
+one-bit : (x : Bool) → valueOf (x ∷ []) ≡ valOf (letter x ∷ [])
+unfolding valueOf valOf valFrom stops nextVal pick num
+one-bit true = refl
+one-bit false = refl
+
+no-bits : (b : List Bool) → takeBits 0 b ≡ takeText 0 b
+unfolding takeBits takeText valueOf valOf valFrom pick
+no-bits b = refl
+
+bit-alike : (b : List Bool) → takeBits 1 b ≡ takeText 1 b
+bit-alike [] = take-no 1 [] (omega arith) ∙ sym (text-no 1 [] (omega arith))
+bit-alike (x ∷ b) =
+    let h : 1 ≤ length (x ∷ b) = omega arith in
+    let e : _≡_ {A = Option (ℕ × List Bool)} (some (valueOf (x ∷ []), b)) (some (valOf (letter x ∷ []), b)) = rw (one-bit x) in
+    take-yes 1 (x ∷ b) h ∙ e ∙ sym (text-yes 1 (x ∷ b) h)
+
+-- one bit or none is the same number under both readings: the rows of PAIRS but WIDE read alike
+pub pairs-alike : (b : List Bool) (w : ℕ) → w ≤ 1 → wideNumber true w b ≡ wideNumber false w b
+unfolding wideNumber pick
+pairs-alike b zero h = no-bits b
+pairs-alike b (suc zero) h = bit-alike b
+pairs-alike b (suc (suc w)) h = absurd (not-suc-le-zero (le-of-suc-le-suc h))
+
 -- ---- a digit and a number, and a number
 
-module _ (w : ℕ) (b : List Bool) where
-  pub pair-short : takeBits 1 b ≡ none → readPair w b ≡ none
+module _ (mended : Bool) (w : ℕ) (b : List Bool) where
+  pub pair-short : takeBits 1 b ≡ none → readPair mended w b ≡ none
   unfolding readPair
   pair-short e = rw e
 
   module _ (d : ℕ) (r : List Bool) (e : takeBits 1 b ≡ some (d, r)) where
-    pub pair-bare : wideNumber w r ≡ none → readPair w b ≡ none
+    pub pair-bare : wideNumber mended w r ≡ none → readPair mended w b ≡ none
     unfolding readPair
     pair-bare f = rw (e, f)
 
-    pub pair-whole : (v : ℕ) (q : List Bool) → wideNumber w r ≡ some (v, q) → readPair w b ≡ some ((49 + d) ∷ suffix v, q)
+    pub pair-whole : (v : ℕ) (q : List Bool) → wideNumber mended w r ≡ some (v, q) → readPair mended w b ≡ some ((49 + d) ∷ suffix v, q)
     unfolding readPair
     pair-whole v q f = rw (e, f)
 
+module _ (w : ℕ) (b : List Bool) where
   pub number-short : (lo : ℕ) → takeBits w b ≡ none → readNumber lo w b ≡ none
   unfolding readNumber
   number-short lo e = rw e
@@ -221,37 +257,37 @@ module _ (i : ℕ) where
 
 -- ---- a token, and each form
 
-module _ (l : ℕ) (b : List Bool) where
-  pub token-short : takeBits 6 b ≡ none → readToken l b ≡ none
+module _ (mended : Bool) (l : ℕ) (b : List Bool) where
+  pub token-short : takeBits 6 b ≡ none → readToken mended l b ≡ none
   unfolding readToken
   token-short e = rw e
 
-  pub token-form : (i : ℕ) (r : List Bool) → takeBits 6 b ≡ some (i, r) → readToken l b ≡ readForm l (formOf i) r
+  pub token-form : (i : ℕ) (r : List Bool) → takeBits 6 b ≡ some (i, r) → readToken mended l b ≡ readForm mended l (formOf i) r
   unfolding readToken
   token-form i r e = rw e
 
-module _ (l : ℕ) (b : List Bool) where
-  pub read-spelled : (x : ℕ) → readForm l (spelled x) b ≡ after (x ∷ []) (readSpelled (l - 1) b)
+module _ (mended : Bool) (l : ℕ) (b : List Bool) where
+  pub read-spelled : (x : ℕ) → readForm mended l (spelled x) b ≡ after (x ∷ []) (readSpelled (l - 1) b)
   unfolding readForm
   read-spelled x = refl
 
-  pub read-pair : (n : List ℕ) (w : ℕ) → readForm l (paired n w) b ≡ after n (readPair w b)
+  pub read-pair : (n : List ℕ) (w : ℕ) → readForm mended l (paired n w) b ≡ after n (readPair mended w b)
   unfolding readForm
   read-pair n w = refl
 
-  pub read-name : (n : List ℕ) → readForm l (named n) b ≡ some (n, b)
+  pub read-name : (n : List ℕ) → readForm mended l (named n) b ≡ some (n, b)
   unfolding readForm
   read-name n = refl
 
-  pub read-number : (n : List ℕ) (lo w : ℕ) → readForm l (counted n lo w) b ≡ after n (readNumber lo w b)
+  pub read-number : (n : List ℕ) (lo w : ℕ) → readForm mended l (counted n lo w) b ≡ after n (readNumber lo w b)
   unfolding readForm
   read-number n lo w = refl
 
-  pub read-ap : readForm l begun b ≡ after (ascii "AP") (readLetters true (l - 2) b)
+  pub read-ap : readForm mended l begun b ≡ after (ascii "AP") (readLetters true (l - 2) b)
   unfolding readForm
   read-ap = refl
 
-  pub read-none : readForm l noToken b ≡ none
+  pub read-none : readForm mended l noToken b ≡ none
   unfolding readForm
   read-none = refl
 

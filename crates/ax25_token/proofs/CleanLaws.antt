@@ -11,13 +11,13 @@ use lib.ListN.{drop, getD}
 use lib.Dec.{eqb, ltb, leb}
 use borrow.Author.Tests.{eqb-true, leb-true, ltb-true, not-true}
 use Rattle.laws.specs.Pick.{pick}
-use Rattle.laws.specs.Text.{between, isDigit, upper, same, later, position}
+use Rattle.laws.specs.Text.{between, isDigit, upper, same, isOneOf, later, position}
 use Rattle.laws.proofs.Cases.{by-test, and-left, and-right}
 use Rattle.laws.proofs.TextLaws.{below, at-each, same-eq}
 use Rattle.bits.specs.Val.{stops, nextVal, valFrom, valOf}
 use Rattle.ax25_token.specs.Tables.{callAlphabet, alphaOf}
 use Rattle.ax25_token.specs.Token.{hyphened, baseOf, behind, twoDigits, decimal, suffix}
-use Rattle.ax25_token.specs.Clean.{cleanLetter, cleanLetters, callText}
+use Rattle.ax25_token.specs.Clean.{cleanLetter, cleanLetters, callText, CleanCall}
 use Rattle.ax25_token.proofs.Cases.{suffix-none}
 use Rattle.ax25_token.proofs.Hyphen.{suffix-base}
 
@@ -177,3 +177,12 @@ module _ (letters : List ℕ) (ssid : ℕ) (e : cleanLetters letters ≡ true) w
   pub call-unhyphened : hyphened (callText letters ssid) ≡ false → ssid ≡ 0
   unfolding callText
   call-unhyphened h = suffix-hyphened ssid (sym (hyphen-clean letters (suffix ssid) e) ∙ h)
+
+-- ---- a clean call, by the reading
+
+-- a call that is clean under the original reading is clean under both
+pub clean-both : (mended : Bool) (letters : List ℕ) (ssid : ℕ) → CleanCall false letters ssid → CleanCall mended letters ssid
+unfolding isOneOf pick
+clean-both true letters ssid h =
+    record { clean = h .clean; some-letters = h .some-letters; few-letters = h .few-letters; small = h .small; not-misread = refl }
+clean-both false letters ssid h = h

@@ -1,7 +1,7 @@
--- Document 01's examples of tokens and one of each path, and letter codes (02, E2), computed.
+-- Document 01's examples of tokens and one of each path, tokens under both readings (02, E5), and letter codes (02, E2), computed.
 -- Assumes nothing.
 use mathlib.Core.Path.{_≡_, refl}
-use mathlib.Core.Bool.{Bool, true, _&&_}
+use mathlib.Core.Bool.{Bool, true, false, _&&_}
 use mathlib.Core.List.{List, [], _∷_, map}
 use mathlib.Core.Option.{Option, none, some}
 use Prim.Native.Nat.{ℕ}
@@ -73,9 +73,9 @@ readsAs : Option (List ℕ × List Bool) → List ℕ → List ℕ → Bool
 readsAs none c r = same c (ascii "none")
 readsAs (some p) c r = same (p .0) c && same (map letter (p .1)) r
 
-reads : List (ℕ × String × String × String) → Bool
-reads [] = true
-reads (v ∷ vs) = readsAs (readToken (v .0) (map (λ x. eqb x 49) (ascii (v .1)))) (ascii (v .2)) (ascii (v .3)) && reads vs
+reads : Bool → List (ℕ × String × String × String) → Bool
+reads mended [] = true
+reads mended (v ∷ vs) = readsAs (readToken mended (v .0) (map (λ x. eqb x 49) (ascii (v .1)))) (ascii (v .2)) (ascii (v .3)) && reads mended vs
 
 read : List (ℕ × String × String × String)
 read =
@@ -96,6 +96,35 @@ read =
     ∷ (6, "000001000000111", "none", "")
     ∷ []
 
-examples : (codes coded ≡ true) × (reads read ≡ true)
-unfolding codes codesAs coded reads readsAs read odd num bitsOf valueOf pick between upper same isOneOf starts later position takeBits takeText stops nextVal valFrom valOf callAlphabet long symOf alphaOf wideTokens wideRow pairRows pairTexts fixedRows numberedRows hyphened baseOf behind numberAt twoDigits decimal suffix pairBits pairsBits fixedBits takes numberedBits spell ending plainAp apBits spelledBits orElse tokenBits after pairForm fixedForm numberedForm symbolForm formOf wideNumber readPair readNumber letterOf goOn readLetters readSpelled readForm readToken
-examples = (refl, refl)
+-- ---- bits, the call of the original reading, the call of the mended one, bits left; for calls of six letters and of seven
+
+readsBoth : List (String × String × String × String) → Bool
+readsBoth [] = true
+readsBoth (v ∷ vs) =
+    reads false ((6, v .0, v .1, v .3) ∷ (7, v .0, v .1, v .3) ∷ [])
+    && (reads true ((6, v .0, v .2, v .3) ∷ (7, v .0, v .2, v .3) ∷ []) && readsBoth vs)
+
+readBoth : List (String × String × String × String)
+readBoth =
+    ("10010100001", "WIDE1", "WIDE1", "01")
+    ∷ ("10010100101", "WIDE1-1", "WIDE1-1", "01")
+    ∷ ("10010101001", "WIDE1-10", "WIDE1-2", "01")
+    ∷ ("10010101101", "WIDE1-11", "WIDE1-3", "01")
+    ∷ ("10010110001", "WIDE2", "WIDE2", "01")
+    ∷ ("10010110101", "WIDE2-1", "WIDE2-1", "01")
+    ∷ ("10010111001", "WIDE2-10", "WIDE2-2", "01")
+    ∷ ("10010111101", "WIDE2-11", "WIDE2-3", "01")
+    -- nothing follows; a bit is missing
+    ∷ ("100101110", "WIDE2-10", "WIDE2-2", "")
+    ∷ ("10010111", "none", "none", "")
+    -- the other pairs have one bit
+    ∷ ("1001101001", "PNW2", "PNW2", "01")
+    ∷ ("1001101101", "PNW2-1", "PNW2-1", "01")
+    -- WIDE2-10 that is spelled
+    ∷ ("0101110010010001000001010111010000001010", "WIDE2-10", "WIDE2-10", "")
+    ∷ ("10101101", "CQ", "CQ", "01")
+    ∷ []
+
+examples : (codes coded ≡ true) × (reads false read ≡ true) × (readsBoth readBoth ≡ true)
+unfolding codes codesAs coded reads readsAs read readsBoth readBoth odd num bitsOf valueOf pick between upper same isOneOf starts later position takeBits takeText stops nextVal valFrom valOf callAlphabet long symOf alphaOf wideTokens wideRow pairRows pairTexts fixedRows numberedRows hyphened baseOf behind numberAt twoDigits decimal suffix pairBits pairsBits fixedBits takes numberedBits spell ending plainAp apBits spelledBits orElse tokenBits after pairForm fixedForm numberedForm symbolForm formOf wideNumber readPair readNumber letterOf goOn readLetters readSpelled readForm readToken
+examples = (refl, refl, refl)

@@ -5,7 +5,9 @@ use mathlib.Core.List.{List, [], _∷_}
 use mathlib.Core.Option.{Option, none, some}
 use Prim.Native.Nat.{ℕ, _+_}
 use lib.ListN.{take, drop, set, replicate}
-use Rattle.ax25_token.specs.Token.{Form, spelled, paired, named, counted, begun, noToken}
+use Rattle.bits.specs.Read.{taken}
+use Rattle.bits.specs.declared.read.Taken.{Taken}
+use Rattle.ax25_token.specs.Token.{wideNumber, Form, spelled, paired, named, counted, begun, noToken}
 use Rattle.ax25_token.specs.declared.Call.{Call}
 use Rattle.ax25_token.specs.declared.Token.{Token}
 use Rattle.ax25_token.specs.declared.Token.the-variants.{Next, Nothing}
@@ -52,3 +54,7 @@ formName (named n) = n
 formName (counted n lo w) = n
 formName begun = []
 formName noToken = []
+
+-- the answer to a reading of the number after a digit, at a position of all bits
+abbrev pub tookWide : Bool → ℕ → List Bool → ℕ → Taken
+tookWide mended w b at = taken (at + w) (wideNumber mended w (drop at b))

@@ -149,15 +149,16 @@ symbolForm (some s) =
 unfoldable pub formOf : ℕ → Form
 formOf i = symbolForm (getElem? long i)
 
--- the number behind the digit, of w bits: they are read as decimal digits, so that 10 and 11 are ten and eleven
-unfoldable pub wideNumber : ℕ → List Bool → Option (ℕ × List Bool)
-wideNumber w b = takeText w b
+-- the number after the digit, of w bits. The original reading, false, takes them as decimal digits, so that 10 and 11 are ten and eleven;
+-- true is "a mended reading in which the last two bits of a WIDE token are a binary number" (02, E5). The other pairs have one bit
+unfoldable pub wideNumber : Bool → ℕ → List Bool → Option (ℕ × List Bool)
+wideNumber mended w b = pick mended (takeBits w b) (takeText w b)
 
 -- a digit, 1 or 2, and a number of w bits
-unfoldable pub readPair : ℕ → List Bool → Option (List ℕ × List Bool)
-readPair w b = do
+unfoldable pub readPair : Bool → ℕ → List Bool → Option (List ℕ × List Bool)
+readPair mended w b = do
   (d, r) ← takeBits 1 b
-  (v, q) ← wideNumber w r
+  (v, q) ← wideNumber mended w r
   some ((49 + d) ∷ suffix v, q)
 
 -- a number of w bits, counted from a lowest
@@ -197,16 +198,17 @@ readSpelled n b = do
   (v, q) ← takeBits 4 r
   some (t ++ suffix v, q)
 
-unfoldable pub readForm : ℕ → Form → List Bool → Option (List ℕ × List Bool)
-readForm l (spelled x) b = after (x ∷ []) (readSpelled (l - 1) b)
-readForm l (paired n w) b = after n (readPair w b)
-readForm l (named n) b = some (n, b)
-readForm l (counted n lo w) b = after n (readNumber lo w b)
-readForm l begun b = after (ascii "AP") (readLetters true (l - 2) b)
-readForm l noToken b = none
+unfoldable pub readForm : Bool → ℕ → Form → List Bool → Option (List ℕ × List Bool)
+readForm mended l (spelled x) b = after (x ∷ []) (readSpelled (l - 1) b)
+readForm mended l (paired n w) b = after n (readPair mended w b)
+readForm mended l (named n) b = some (n, b)
+readForm mended l (counted n lo w) b = after n (readNumber lo w b)
+readForm mended l begun b = after (ascii "AP") (readLetters true (l - 2) b)
+readForm mended l noToken b = none
 
--- "A token starts with a 6-bit index into `LONG`"
-unfoldable pub readToken : ℕ → List Bool → Option (List ℕ × List Bool)
-readToken l b = do
+-- "A token starts with a 6-bit index into `LONG`". "The token reader's promise takes the choice, and so do all above it" (02, E5): the
+-- reading comes first among the arguments
+unfoldable pub readToken : Bool → ℕ → List Bool → Option (List ℕ × List Bool)
+readToken mended l b = do
   (i, r) ← takeBits 6 b
-  readForm l (formOf i) r
+  readForm mended l (formOf i) r

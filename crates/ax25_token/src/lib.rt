@@ -7,13 +7,14 @@ ghost use Prim.Native.Nat.{_+_, _-_, _^_, _≤_, _<_, ℕ};
 ghost use lib.ListN.{length, getD, drop};
 ghost use Rattle.laws.specs.Bits.{unpack};
 ghost use Rattle.laws.specs.Text.{ascii};
-ghost use Rattle.bits.specs.Read.{took, tookText, afterOf};
-ghost use Rattle.ax25_token.specs.Call.{empty, pushed, appended, callOf, texts, behindCall, formName};
+ghost use Rattle.bits.specs.Read.{took, afterOf};
+ghost use Rattle.ax25_token.specs.Call.{empty, pushed, appended, callOf, texts, behindCall, formName, tookWide};
 ghost use Rattle.ax25_token.specs.Tables.{callAlphabet};
 ghost use Rattle.ax25_token.specs.Token.{twoDigits, suffix, formOf, readLetters, readSpelled, readPair, readNumber, readForm, readToken};
 use bits::read::Taken;
-use bits::reader::Reader;
 use bits::reader::Two;
+use bits::reader::bit_take_at;
+use bits::reader::bit_text_at;
 use bits::reader::take_at;
 
 // A call: its text is the first len bytes.
@@ -170,23 +171,23 @@ fn spelled(s: &[u8], at: usize, n: usize, c: Call) -> Decoded
     }
 }
 
-// The bit of a digit and the number after it, whose w bits are read as decimal digits: one reader takes both.
-fn pair_at(s: &[u8], at: usize, w: usize) -> Two
+// The bit of a digit and the number after it, whose w bits are decimal digits in the original reading and a binary number in the mended one.
+fn pair_at(s: &[u8], at: usize, w: usize, mended: bool) -> Two
     requires { ⌜ (w ≤ 2) × (length (now s) < 2 ^ 60) ⌝ }
-    ensures { λ r. ⌜ (r .first ≡ took 1 (unpack (now (s .entry))) at) × (r .second ≡ tookText w (unpack (now (s .entry))) (afterOf (r .first) at)) ⌝ }
+    ensures { λ r. ⌜ (r .first ≡ took 1 (unpack (now (s .entry))) at) × (r .second ≡ tookWide mended w (unpack (now (s .entry))) (afterOf (r .first) at)) ⌝ }
 {
-    let mut r = Reader { bytes: s, at };
-    let first = r.bit();
-    let second = r.text(w);
-    Two { first, second }
+    if mended {
+        return bit_take_at(s, at, w);
+    }
+    bit_text_at(s, at, w)
 }
 
 // A digit, 1 or 2, and a number of w bits.
-fn pair(s: &[u8], at: usize, w: usize, c: Call) -> Decoded
+fn pair(s: &[u8], at: usize, w: usize, c: Call, mended: bool) -> Decoded
     requires { ⌜ (length (now s) < 2 ^ 60) × (c .len ≤ 12) × (w ≤ 2) ⌝ }
-    ensures { λ r. ⌜ (callOf (unpack (now (s .entry))) r ≡ behindCall c (readPair w (drop at (unpack (now (s .entry)))))) × (r .call .len ≤ c .len + 4) ⌝ }
+    ensures { λ r. ⌜ (callOf (unpack (now (s .entry))) r ≡ behindCall c (readPair mended w (drop at (unpack (now (s .entry)))))) × (r .call .len ≤ c .len + 4) ⌝ }
 {
-    let two = pair_at(s, at, w);
+    let two = pair_at(s, at, w, mended);
     let digit = two.first;
     let Taken::Bits(d, _) = digit else {
         return nothing();
@@ -229,14 +230,14 @@ fn name(i: u64) -> Call
 }
 
 // The token of an index from 37 to 51.
-fn named(s: &[u8], at: usize, i: u64) -> Decoded
+fn named(s: &[u8], at: usize, i: u64, mended: bool) -> Decoded
     requires { ⌜ (length (now s) < 2 ^ 60) × (37 ≤ i) × (i ≤ 51) ⌝ }
-    ensures { λ r. ⌜ ((l : ℕ) → callOf (unpack (now (s .entry))) r ≡ behindCall empty (readForm l (formOf i) (drop at (unpack (now (s .entry)))))) × (r .call .len ≤ 10) ⌝ }
+    ensures { λ r. ⌜ ((l : ℕ) → callOf (unpack (now (s .entry))) r ≡ behindCall empty (readForm mended l (formOf i) (drop at (unpack (now (s .entry)))))) × (r .call .len ≤ 10) ⌝ }
 {
     let c = name(i);
     match i {
-        37 => pair(s, at, 2, c),
-        38..=41 => pair(s, at, 1, c),
+        37 => pair(s, at, 2, c, mended),
+        38..=41 => pair(s, at, 1, c, mended),
         44 => number(s, at, 20, 4, c),
         45 => number(s, at, 11, 3, c),
         46 => number(s, at, 16, 5, c),
@@ -269,17 +270,17 @@ fn begun() -> Call
     }
 }
 
-// The token at a position of the bits, for calls of l letters.
-pub fn token_decode(s: &[u8], at: usize, l: usize) -> Decoded
+// The token at a position of the bits, for calls of l letters, in the original reading or the mended one.
+pub fn token_decode(s: &[u8], at: usize, l: usize, mended: bool) -> Decoded
     requires { ⌜ (length (now s) < 2 ^ 60) × (2 ≤ l) × (l ≤ 7) ⌝ }
-    ensures { λ r. ⌜ (texts (callOf (unpack (now (s .entry))) r) ≡ readToken l (drop at (unpack (now (s .entry))))) × (r .call .len ≤ 10) ⌝ }
+    ensures { λ r. ⌜ (texts (callOf (unpack (now (s .entry))) r) ≡ readToken mended l (drop at (unpack (now (s .entry))))) × (r .call .len ≤ 10) ⌝ }
 {
     let Taken::Bits(i, p) = take_at(s, at, 6) else {
         return nothing();
     };
     match i {
         0..=36 => spelled(s, p, l - 1, first(i)),
-        37..=51 => named(s, p, i),
+        37..=51 => named(s, p, i, mended),
         52 => letters(s, p, l - 2, true, begun()),
         _ => nothing(),
     }

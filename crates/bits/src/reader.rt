@@ -5,7 +5,7 @@ ghost use Prim.Native.Nat.{_-_, _*_, _/_, _^_, _≤_, _<_};
 ghost use lib.ListN.{length, drop};
 ghost use Rattle.laws.specs.Bits.{packN, unpack};
 ghost use Rattle.laws.specs.Wrote.{Wrote};
-ghost use Rattle.bits.specs.Read.{took, tookText, moved};
+ghost use Rattle.bits.specs.Read.{took, tookText, afterOf, moved};
 ghost use Rattle.bits.specs.Text7.{text7Of, text7Next, text7Left};
 use crate::read;
 use crate::read::Got;
@@ -121,6 +121,28 @@ pub fn text_at(s: &[u8], at: usize, n: usize) -> Taken
 {
     let mut r = Reader { bytes: s, at };
     r.text(n)
+}
+
+// The bit at a position and the n bits after it, as a number: one reader takes both.
+pub fn bit_take_at(s: &[u8], at: usize, n: usize) -> Two
+    requires { ⌜ (n ≤ 64) × (length (now s) < 2 ^ 60) ⌝ }
+    ensures { λ r. ⌜ (r .first ≡ took 1 (unpack (now (s .entry))) at) × (r .second ≡ took n (unpack (now (s .entry))) (afterOf (r .first) at)) ⌝ }
+{
+    let mut r = Reader { bytes: s, at };
+    let first = r.bit();
+    let second = r.take(n);
+    Two { first, second }
+}
+
+// The bit at a position and the n bits after it as text of 0 and 1, and the number that `vb_val` reads there: one reader takes both.
+pub fn bit_text_at(s: &[u8], at: usize, n: usize) -> Two
+    requires { ⌜ (n ≤ 16) × (length (now s) < 2 ^ 60) ⌝ }
+    ensures { λ r. ⌜ (r .first ≡ took 1 (unpack (now (s .entry))) at) × (r .second ≡ tookText n (unpack (now (s .entry))) (afterOf (r .first) at)) ⌝ }
+{
+    let mut r = Reader { bytes: s, at };
+    let first = r.bit();
+    let second = r.text(n);
+    Two { first, second }
 }
 
 // The text from a position on, without the pad, written from a place of the output on.

@@ -28,7 +28,7 @@ pub fn summary(command: u64, data: &[u8], answer: &[u8]) -> Outcome {
 
 // decode ROOM HEX ANSWER: the data of a message, to an output of ROOM bytes
 pub fn decode(message: &[u8], answer: &[u8], out: &mut [u8]) -> Outcome {
-    let ours = kiss::decode(message, out);
+    let ours = kiss::decode(message, false, out);
     same_decoded(answer, out, ours)
 }
 

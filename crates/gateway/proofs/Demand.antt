@@ -1,7 +1,7 @@
 -- Demand 3.
 -- Assumes nothing.
 use mathlib.Core.Path.{_≡_, refl, sym, ap, ap₂, _∙_, subst}
-use mathlib.Core.Bool.{true}
+use mathlib.Core.Bool.{Bool, true}
 use mathlib.Core.List.{List, [], _∷_, _++_}
 use mathlib.Core.Option.{Option, some}
 use Prim.Native.Nat.{ℕ, zero, suc, _+_, _≤_, _<_}
@@ -98,7 +98,7 @@ module _ {o : Outcome Decoded} {d : Decoded} (e : o ≡ answer d) (out : List �
 
 -- ---- one message
 
-module _ (m : ℕ) {x : Sending} {ls : List Line} (c : Message m x ls) where
+module _ {mended : Bool} (m : ℕ) {x : Sending} {ls : List Line} (c : Message mended m x ls) where
   sendable : Sendable (x .message) (x .field) m
   sendable = send-accepted (x .message) (x .field) m (c .sent)
 
@@ -117,7 +117,7 @@ module _ (m : ℕ) {x : Sending} {ls : List Line} (c : Message m x ls) where
       let e = send-answer (x .message) (x .field) m k sendable (omega (arith, message-length)) in
       record { bytes = fragmentOf (x .message) (x .field) m k; is = e; fits = sent-fits e; short = sent-short e }
 
-  message-whole : Whole m x ls (c .source)
+  message-whole : Whole mended m x ls (c .source)
   message-whole =
       record {
         counted = count-answer (length (x .message)) (x .field) (sendable .field-ok) (sendable .short) ∙ ap answer (sym message-length);
@@ -131,17 +131,17 @@ module _ (m : ℕ) {x : Sending} {ls : List Line} (c : Message m x ls) where
 
 -- ---- any list of messages
 
-module _ (m : ℕ) where
-  all-lines : {xs : List Sending} {ps : List Line} → Messages m xs ps → ps ≡ allLines m xs
+module _ {mended : Bool} (m : ℕ) where
+  all-lines : {xs : List Sending} {ps : List Line} → Messages mended m xs ps → ps ≡ allLines m xs
   unfolding allLines
   all-lines no-message = refl
   all-lines (message-then c r) = ap₂ {A = List Line} {B = List Line} (λ a b. a ++ b) (message-lines m c) (all-lines r)
 
-  all-accepted : {xs : List Sending} {ps : List Line} → Messages m xs ps → AllAccepted m xs
+  all-accepted : {xs : List Sending} {ps : List Line} → Messages mended m xs ps → AllAccepted m xs
   all-accepted no-message = tt
   all-accepted (message-then c r) = (message-accepted m c, all-accepted r)
 
-  all-whole : {xs : List Sending} {ps : List Line} (q : Messages m xs ps) → AllWhole q
+  all-whole : {xs : List Sending} {ps : List Line} (q : Messages mended m xs ps) → AllWhole q
   all-whole no-message = tt
   all-whole (message-then c r) = (message-whole m c, all-whole r)
 
@@ -152,8 +152,8 @@ unfolding runOf leftBy
 run-append t [] b = refl
 run-append t (c ∷ a) b = ap {B = List (Option Heard)} (λ l. stepOf t c .answer ∷ l) (run-append (stepOf t c .next) a b)
 
-claim : (m : ℕ) → maskOk m ≡ true → (store : List ℕ) → length store ≡ 5000 → Claim m (freshOf m) store
-claim m ok store size =
+claim : (mended : Bool) (m : ℕ) → maskOk m ≡ true → (store : List ℕ) → length store ≡ 5000 → Claim mended m (freshOf m) store
+claim mended m ok store size =
     record {
       forgets = λ stores sizes cs. forget m ok store size stores sizes cs;
       delivers = λ before q xs ps ms ls x.
@@ -166,10 +166,10 @@ claim m ok store size =
           };
     }
 
--- demand 3 holds
-pub demand-3 : Demand3
+-- demand 3 holds, under both readings
+pub demand-3 : (mended : Bool) → Demand3 mended
 unfolding newOf
-demand-3 mask r new store size =
+demand-3 mended mask r new store size =
     by-test (maskOk mask)
-    (λ ok. subst (λ (y : Reassembler). Claim mask y store) (same-answer (sym (pick-true _ _ ok) ∙ new)) (claim mask ok store size))
+    (λ ok. subst (λ (y : Reassembler). Claim mended mask y store) (same-answer (sym (pick-true _ _ ok) ∙ new)) (claim mended mask ok store size))
     (λ no. absurd (answer-not (sym new ∙ pick-false _ _ no)))

@@ -1,5 +1,5 @@
--- Document 01's edges marked P, masks of 1 to 7 check bits (02, E11), the lengths of fragments (02, E1), polled frames (02, E4) and letters
--- of calls (02, E2): five tables that hold of the definitions as a whole.
+-- Document 01's edges marked P, masks of 1 to 7 check bits (02, E11), the lengths of fragments (02, E1), polled frames (02, E4), letters
+-- of calls (02, E2) and WIDE calls under both readings (02, E5): six tables that hold of the definitions as a whole.
 -- Assumes nothing.
 use mathlib.Core.Path.{_≡_, refl}
 use mathlib.Core.Bool.{Bool, true, false, _&&_}
@@ -8,15 +8,17 @@ use mathlib.Core.Option.{Option, none, some}
 use Prim.Native.Nat.{ℕ, zero, suc, _+_, _%_}
 use Prim.Native.String.{String}
 use lib.Bits.{bitAnd}
+use lib.Count.{leadingZeros}
 use lib.ListN.{length, take, replicate}
 use lib.Dec.{leb, eqb}
 use Rattle.laws.specs.Bits.{odd, num, bitsOf, valueOf, fit, packN, pack, unpack}
 use Rattle.laws.specs.Pick.{pick}
-use Rattle.laws.specs.Text.{ascii, same, between, upper, isOneOf, starts, later, position, trimFront, keepOr, trimEnd, trim}
+use Rattle.laws.specs.Text.{ascii, same, between, isDigit, upper, filled, isOneOf, starts, later, position, trimFront, keepOr, trimEnd, trim}
 use Rattle.laws.proofs.Cases.{alike}
 use Rattle.laws.proofs.TextLaws.{below}
 use Rattle.crc.specs.Crc.{crcBit, crcSteps, crcByte, crcFrom, crcOf, crcBits}
 use Rattle.bits.specs.Read.{letter, takeBits, takeText}
+use Rattle.bits_write.specs.Write.{topBits, widthOf}
 use Rattle.bits_write.specs.Text7.{sevens, lastOr, text7Bits}
 use Rattle.bits.specs.Read.{numbers}
 use Rattle.bits.specs.Text7.{differ, counted, endOf, text7Of}
@@ -28,17 +30,23 @@ use Rattle.ax25_token.specs.Tables.{callAlphabet, long, symOf, alphaOf, wideTok
 use Rattle.ax25_token.specs.Token.{tokenBits, readToken, hyphened, baseOf, behind, numberAt, twoDigits, decimal, suffix, pairBits, pairsBits, fixedBits, takes, numberedBits, spell, ending, plainAp, apBits, spelledBits, orElse, after, pairForm, fixedForm, numberedForm, symbolForm, formOf, wideNumber, readPair, readNumber, letterOf, goOn, readLetters, readSpelled, readForm}
 use Rattle.ax25_address.specs.Types.{Ax25, Ax25Long, Generic, Text, Binary}
 use Rattle.ax25_address.specs.Address.{white, half, addrCall, double, cutTo, ssidOf, callBytes}
-use Rattle.ax25_address.specs.Classify.{anyHigh, classifyOf}
-use Rattle.ax25_address.specs.Parse.{splitOff, digiFields, parseOf, typeOf}
+use Rattle.ax25_address.specs.Classify.{anyHigh, marksAt, isPosition, isTimestamped, isMessage, stopsAt, endsAt, tally, scanThird, isThird, classifyOf}
+use Rattle.ax25_address.specs.Parse.{splitOff, digiFields, parseOf, typeOf, aliases, aliasCalls, sameAll, aliasFrom, aliasOf}
+use Rattle.ax25_aprs.specs.Words.{words, word, firstOf, wordAt}
+use Rattle.ax25_aprs.specs.Text.{before, joined, allDigits, unsigned, noPlus, altitude, altitudeBits, altitudeAt, frontBits, frontSize, textFrom, textBits, padded, altitudeText, codeText, codeSpan, readFrom, readText}
+use Rattle.ax25_aprs.specs.Body.{callOf, messageBits, readMessage, bodyBits, readBody}
+use Rattle.ax25_aprs.specs.Third.{collectOf, callPart, callField, innerBits, lastField, pathField, thirdBits, readThird}
 use Rattle.ax25.specs.Encode.{Coded, headerOf, bodyBytes, tokensBits, digiBits, headBits, infoBits, frameBits, codeParsed, encodeOf}
-use Rattle.ax25.specs.Decode.{marked, readTokens, readDigis, readHead, readInfo, addresses, readFrame}
+use Rattle.ax25.specs.Decode.{nameAt, marked, readAlias, readTokens, readAliased, readDigis, readHead, readInfo, addresses, readFrame}
 use Rattle.kiss.specs.Generic.{genericOf, genericBack}
 use Rattle.kiss.specs.Codec.{codeOf, Summary, summaryOf, Decoded, decodeOf, decodeMessage, decodeSome}
 
 pub data Edge : Type 0 where
   codes : ℕ → List ℕ → List ℕ → Edge  -- command and data, the message
   no-message : ℕ → List ℕ → ℕ → Edge  -- command and data, the number that the coder refuses them with
-  decodes : List ℕ → ℕ → List ℕ → Edge  -- a message, command and data
+  decodes : Bool → List ℕ → ℕ → List ℕ → Edge  -- whether the reading is mended, a message, command and data
+  no-data : Bool → List ℕ → ℕ → Edge  -- whether the reading is mended, a message, the number that the decoder refuses it with
+  travels : List ℕ → List ℕ → List ℕ → Edge  -- a frame, its message, what the original reading makes of that; the mended one gives the frame
   sums : ℕ → List ℕ → ℕ → ℕ → Bool → Edge  -- command and data, the summary: type, digipeaters and UI
   no-sum : ℕ → List ℕ → ℕ → Edge  -- command and data, the number that the summary is refused with
   counts : ℕ → ℕ → ℕ → Edge  -- field and bytes, the count
@@ -48,7 +56,7 @@ pub data Edge : Type 0 where
   sends : List ℕ → ℕ → ℕ → ℕ → List ℕ → Edge  -- a message, field, mask and k, fragment k
   lengths : List ℕ → ℕ → ℕ → List ℕ → Edge  -- a message, field and mask, the lengths of all its fragments: after the last comes 13
   token : String → String → Edge  -- a call, its bits
-  reads : String → String → Edge  -- bits, the call
+  reads : Bool → String → String → Edge  -- whether the reading is mended, bits, the call
 
 -- a frame of CQ from K1A with this control byte, PID and information
 with-end : List ℕ → List ℕ
@@ -98,7 +106,7 @@ table =
     ∷ codes Generic (ascii "A") (0x21 ∷ 0x82 ∷ [])
     ∷ codes Generic (ascii "B") (0x21 ∷ 0x85 ∷ [])
     ∷ codes Generic (0x80 ∷ []) (0x20 ∷ 0x80 ∷ [])
-    ∷ decodes (0x21 ∷ []) Generic []
+    ∷ decodes false (0x21 ∷ []) Generic []
     ∷ counts 5 5 1
     ∷ counts 5 6 2
     ∷ counts 5 8 2
@@ -119,9 +127,9 @@ table =
     ∷ leaves 0xF8 9
     ∷ token "WIDE1-1" "100101001"
     ∷ token "WIDE2-2" "100101110"
-    ∷ reads "100101110" "WIDE2-10"
+    ∷ reads false "100101110" "WIDE2-10"
     ∷ codes Ax25 frame message
-    ∷ decodes message Ax25 frame
+    ∷ decodes false message Ax25 frame
     ∷ counts 5 7 2
     ∷ sends message 5 0xF0 0 (0xC0 ∷ 0x40 ∷ 0xAC ∷ 0xB7 ∷ 0x01 ∷ [])
     ∷ sends message 5 0xF0 1 (0x40 ∷ 0x00 ∷ 0x10 ∷ 0x40 ∷ [])
@@ -238,7 +246,7 @@ polled =
     ∷ no-sum Ax25 (with-end (0x13 ∷ [])) 3
     ∷ no-sum Ax25Long (with-end (0x13 ∷ 0xF0 ∷ 0x41 ∷ [])) 3
     ∷ codes Ax25 (with-end (0x13 ∷ 0xF0 ∷ 0x41 ∷ [])) (0x00 ∷ 0xAC ∷ 0xB7 ∷ 0x01 ∷ 0x00 ∷ 0x04 ∷ 0xF8 ∷ 0x41 ∷ 0x00 ∷ [])
-    ∷ decodes (0x00 ∷ 0xAC ∷ 0xB7 ∷ 0x01 ∷ 0x00 ∷ 0x04 ∷ 0xF8 ∷ 0x41 ∷ 0x00 ∷ []) Ax25 (with-end (0x13 ∷ 0x70 ∷ 0x41 ∷ []))
+    ∷ decodes false (0x00 ∷ 0xAC ∷ 0xB7 ∷ 0x01 ∷ 0x00 ∷ 0x04 ∷ 0xF8 ∷ 0x41 ∷ 0x00 ∷ []) Ax25 (with-end (0x13 ∷ 0x70 ∷ 0x41 ∷ []))
     ∷ []
 
 -- "let a table of 256 entries give a byte's letter code or none": a blank, the first and the last digit and letter; small letters, which are
@@ -269,6 +277,64 @@ lettered =
     ∷ no-message Ax25 (with-digi (0x96 ∷ 0xBE ∷ 0x62 ∷ 0x40 ∷ [])) 4
     ∷ no-message Ax25 (with-digi (0x82 ∷ 0xA0 ∷ 0xE4 ∷ 0xE6 ∷ [])) 4
     ∷ codes Ax25 (with-digi (0x82 ∷ 0xA0 ∷ 0xA4 ∷ 0xA6 ∷ [])) (0x48 ∷ 0x56 ∷ 0x5B ∷ 0x80 ∷ 0x80 ∷ 0x1A ∷ 0x24 ∷ 0x98 ∷ 0x08 ∷ 0x20 ∷ [])
+    ∷ []
+
+-- a frame of CQ from K1A, and one of APRS from K1A, from the source's SSID byte on
+from-k1a : List ℕ → List ℕ
+from-k1a e = 0x86 ∷ 0xA2 ∷ 0x40 ∷ 0x40 ∷ 0x40 ∷ 0x40 ∷ 0x60 ∷ 0x96 ∷ 0x62 ∷ 0x82 ∷ 0x40 ∷ 0x40 ∷ 0x40 ∷ e
+
+aprs-from-k1a : List ℕ → List ℕ
+aprs-from-k1a e = 0x82 ∷ 0xA0 ∷ 0xA4 ∷ 0xA6 ∷ 0x40 ∷ 0x40 ∷ 0x60 ∷ 0x96 ∷ 0x62 ∷ 0x82 ∷ 0x40 ∷ 0x40 ∷ 0x40 ∷ e
+
+-- an address of WIDE1 or WIDE2 by its digit's byte, with its SSID byte
+wide1 : ℕ → List ℕ → List ℕ
+wide1 ssid e = 0xAE ∷ 0x92 ∷ 0x88 ∷ 0x8A ∷ 0x62 ∷ 0x40 ∷ ssid ∷ e
+
+wide2 : ℕ → List ℕ → List ℕ
+wide2 ssid e = 0xAE ∷ 0x92 ∷ 0x88 ∷ 0x8A ∷ 0x64 ∷ 0x40 ∷ ssid ∷ e
+
+-- control, PID and A; control, PID and information
+with-a : List ℕ
+with-a = 0x03 ∷ 0xF0 ∷ 0x41 ∷ []
+
+with-info : String → List ℕ
+with-info s = 0x03 ∷ 0xF0 ∷ ascii s
+
+-- "a mended reading in which the last two bits of a WIDE token are a binary number": in a digipeater, in two, after the alias's bit, in
+-- destination and source, in a message's addressee, in the three calls of a third party. WIDE2-10 that is spelled, and an alias, are read
+-- alike. What one reading refuses the other does.
+pub readings : List Edge
+readings =
+    reads false "100101110" "WIDE2-10"
+    ∷ reads true "100101110" "WIDE2-2"
+    ∷ reads false "100101011" "WIDE1-11"
+    ∷ reads true "100101011" "WIDE1-3"
+    ∷ reads false "100101001" "WIDE1-1"
+    ∷ reads true "100101001" "WIDE1-1"
+    ∷ travels (from-k1a (0x62 ∷ wide2 0x65 with-a)) (0x48 ∷ 0x56 ∷ 0x5B ∷ 0x80 ∷ 0x80 ∷ 0x32 ∷ 0xE4 ∷ 0x10 ∷ []) (from-k1a (0x62 ∷ wide2 0x75 with-a))
+    ∷ travels (from-k1a (0x60 ∷ wide1 0x66 (wide2 0x67 with-a))) (0x49 ∷ 0x2B ∷ 0x2D ∷ 0xC0 ∷ 0x40 ∷ 0x09 ∷ 0x5C ∷ 0xBD ∷ 0x04 ∷ [])
+    (from-k1a (0x60 ∷ wide1 0x76 (wide2 0x77 with-a)))
+    ∷ travels (aprs-from-k1a (0x60 ∷ wide1 0xE2 (wide2 0x65 (with-info ">hi"))))
+    (0x49 ∷ 0xB4 ∷ 0x49 ∷ 0x30 ∷ 0x0B ∷ 0x70 ∷ 0x10 ∷ 0x01 ∷ 0x29 ∷ 0x97 ∷ 0x07 ∷ 0xDA ∷ 0x34 ∷ 0x80 ∷ [])
+    (aprs-from-k1a (0x60 ∷ wide1 0xE2 (wide2 0x75 (with-info ">hi"))))
+    ∷ travels (wide2 0x64 (wide1 0x67 with-a)) (0x40 ∷ 0x97 ∷ 0x4A ∷ 0xD0 ∷ 0x40 ∷ []) (wide2 0x74 (wide1 0x77 with-a))
+    ∷ travels (aprs-from-k1a (0x61 ∷ with-info ":WIDE2-2  :hi")) (0x40 ∷ 0xD1 ∷ 0x24 ∷ 0xC0 ∷ 0x2D ∷ 0xC0 ∷ 0x40 ∷ 0x09 ∷ 0x2E ∷ 0xD1 ∷ 0xA4 ∷ [])
+    (aprs-from-k1a (0x61 ∷ with-info ":WIDE2-10 :hi"))
+    ∷ travels (aprs-from-k1a (0x61 ∷ with-info "}WIDE2-2>WIDE1-3,TCPIP,WIDE2-3*:>hi"))
+    (0x40 ∷ 0xD1 ∷ 0x24 ∷ 0xC0 ∷ 0x2D ∷ 0xC0 ∷ 0x40 ∷ 0x0D ∷ 0x2E ∷ 0x95 ∷ 0xCB ∷ 0xF7 ∷ 0xDA ∷ 0x34 ∷ 0x80 ∷ [])
+    (aprs-from-k1a (0x61 ∷ with-info "}WIDE2-10>WIDE1-11,TCPIP,WIDE2-11*:>hi"))
+    ∷ travels (from-k1a (0x60 ∷ wide2 0x75 with-a))
+    (0x48 ∷ 0x56 ∷ 0x5B ∷ 0x80 ∷ 0x80 ∷ 0x0B ∷ 0x92 ∷ 0x20 ∷ 0xAE ∷ 0x81 ∷ 0x48 ∷ 0x20 ∷ [])
+    (from-k1a (0x60 ∷ wide2 0x75 with-a))
+    ∷ travels (aprs-from-k1a (0x60 ∷ wide1 0xE2 (wide2 0x63 (with-info ">hi"))))
+    (0x49 ∷ 0xB4 ∷ 0x49 ∷ 0x30 ∷ 0x0B ∷ 0x70 ∷ 0x10 ∷ 0x02 ∷ 0x43 ∷ 0xED ∷ 0x1A ∷ 0x40 ∷ [])
+    (aprs-from-k1a (0x60 ∷ wide1 0xE2 (wide2 0x63 (with-info ">hi"))))
+    ∷ no-data false [] 7
+    ∷ no-data true [] 7
+    ∷ no-data false (0x48 ∷ 0x56 ∷ 0x5B ∷ 0x80 ∷ 0x80 ∷ 0x32 ∷ []) 7
+    ∷ no-data true (0x48 ∷ 0x56 ∷ 0x5B ∷ 0x80 ∷ 0x80 ∷ 0x32 ∷ []) 7
+    ∷ no-data false (replicate 5001 0x48) 2
+    ∷ no-data true (replicate 5001 0x48) 2
     ∷ []
 
 -- ---- tests of answers
@@ -318,7 +384,9 @@ givesCall (some (t, x ∷ b)) c = false
 pub holds : Edge → Bool
 holds (codes command d m) = givesMessage (codeOf command d) m
 holds (no-message command d n) = isRefused (codeOf command d) n
-holds (decodes m command d) = givesData (decodeOf m) command d
+holds (decodes mended m command d) = givesData (decodeOf mended m) command d
+holds (no-data mended m n) = isRefused (decodeOf mended m) n
+holds (travels d m o) = givesMessage (codeOf Ax25 d) m && (givesData (decodeOf false m) Ax25 o && givesData (decodeOf true m) Ax25 d)
 holds (sums command d typ digis ui) = givesSummary (summaryOf command d) typ digis ui
 holds (no-sum command d n) = isRefused (summaryOf command d) n
 holds (counts field bytes count) = givesCount (countFor bytes field) count
@@ -328,7 +396,7 @@ holds (leaves mask most) = eqb (mostOf mask) most && below (λ x. alike (leb (x 
 holds (sends m field mask k f) = givesFragment (sendOf m field mask k) f
 holds (lengths m field mask ns) = givesLengths m field mask 0 ns
 holds (token c b) = givesBits (tokenBits 6 (ascii c)) (ascii b)
-holds (reads b c) = givesCall (readToken 6 (map (λ x. eqb x 49) (ascii b))) (ascii c)
+holds (reads mended b c) = givesCall (readToken mended 6 (map (λ x. eqb x 49) (ascii b))) (ascii c)
 
 pub all : List Edge → Bool
 all [] = true
@@ -353,3 +421,7 @@ polled-holds = refl
 pub lettered-holds : all lettered ≡ true
 unfolding with-source with-letter with-digi message lettered isRefused givesMessage holds all odd num bitsOf valueOf fit packN pack unpack pick between upper same isOneOf starts later position trimFront keepOr trimEnd trim sevens lastOr text7Bits valFrom valOf callAlphabet long symOf alphaOf wideTokens wideRow pairRows pairTexts fixedRows numberedRows hyphened baseOf behind numberAt suffix pairBits pairsBits fixedBits takes numberedBits spell ending plainAp apBits spelledBits orElse tokenBits white half addrCall ssidOf anyHigh classifyOf splitOff digiFields parseOf typeOf headerOf bodyBytes tokensBits digiBits headBits infoBits frameBits codeParsed encodeOf codeOf
 lettered-holds = refl
+
+pub readings-hold : all readings ≡ true
+unfolding leadingZeros widthOf topBits from-k1a aprs-from-k1a wide1 wide2 with-a with-info readings givesMessage givesData isRefused givesCall holds all odd num bitsOf valueOf fit packN pack unpack pick between upper same isOneOf starts later position trimFront keepOr trimEnd trim takeBits takeText sevens numbers lastOr text7Bits differ counted endOf text7Of stops nextVal valFrom valOf callAlphabet long symOf alphaOf wideTokens wideRow pairRows pairTexts fixedRows numberedRows hyphened baseOf behind numberAt twoDigits decimal suffix pairBits pairsBits fixedBits takes numberedBits spell ending plainAp apBits spelledBits orElse tokenBits after pairForm fixedForm numberedForm symbolForm formOf wideNumber readPair readNumber letterOf goOn readLetters readSpelled readForm readToken white half addrCall double cutTo ssidOf callBytes anyHigh classifyOf splitOff digiFields parseOf typeOf headerOf bodyBytes tokensBits digiBits headBits infoBits frameBits codeParsed encodeOf marked readTokens readDigis readHead readInfo addresses readFrame codeOf decodeMessage decodeSome decodeOf filled isDigit before joined allDigits unsigned noPlus altitude altitudeBits altitudeAt frontBits frontSize textFrom textBits padded altitudeText codeText codeSpan readFrom readText words word firstOf wordAt callOf messageBits readMessage bodyBits readBody collectOf callPart callField innerBits lastField pathField thirdBits readThird marksAt isPosition isTimestamped isMessage stopsAt endsAt tally scanThird isThird aliases aliasCalls sameAll aliasFrom aliasOf nameAt readAlias readAliased
+readings-hold = refl

@@ -82,9 +82,9 @@ delivered m xs ls x = handed-mixed x ∙ handed-all m xs
 
 -- ---- each decodes to its original
 
-module _ {message : List ℕ} (c : CodedFrom message) where
-  pub decoded-back : decodeOf message ≡ answer (record { command = c .command; bytes = c .original })
+module _ {mended : Bool} {message : List ℕ} (c : CodedFrom mended message) where
+  pub decoded-back : decodeOf mended message ≡ answer (record { command = c .command; bytes = c .original })
   decoded-back =
-      let b = codec-back (c .codable) (code-short (c .command) (c .original) (record { bytes = message; typ = c .typ }) (c .coded)) in
+      let b = codec-back mended (c .codable) (code-short (c .command) (c .original) (record { bytes = message; typ = c .typ }) (c .coded)) in
       let e : message ≡ b .message = ap (λ (k : Coded). k .bytes) (same-answer (sym (c .coded) ∙ b .coded)) in
-      ap decodeOf e ∙ b .back
+      ap (decodeOf mended) e ∙ b .back

@@ -1,9 +1,10 @@
 -- The premises of demand 3 are met. Every message that sender and frame accept has its frames; all generic bytes and all plain frames of at most
--- 4,999 bytes are messages of the list, under F0 at field 512 and under 80 at field 40; and demand 3 is applied: under both to a list of six messages
--- of all kinds, under every mask to a message in three fragments, and under 80 to one in 129.
+-- 4,999 bytes are messages of the list, under F0 at field 512 and under 80 at field 40; and demand 3 is applied, under both readings: under both masks to a
+-- list of six messages of all kinds, under every mask to a message in three fragments, and under 80 to one in 129. Under the mended reading it is applied
+-- to the six after two with WIDE2-2, a digipeater's call and an addressee's.
 -- Assumes nothing.
 use mathlib.Core.Path.{_≡_, refl, ap, subst}
-use mathlib.Core.Bool.{true, false}
+use mathlib.Core.Bool.{Bool, true, false}
 use mathlib.Core.List.{List, [], _∷_, _++_}
 use mathlib.Core.Option.{some}
 use Prim.Native.Nat.{ℕ, zero, suc, _+_, _≤_, _<_}
@@ -27,12 +28,15 @@ use Rattle.frame.proofs.FrameLaws.{build-accepted, build-answer}
 use Rattle.receiver.specs.Join.{more, done}
 use Rattle.receiver.specs.New.{freshOf, newOf}
 use Rattle.receiver.specs.Push.{lastFrom, fragmentLength}
+use Rattle.ax25_address.specs.Types.{Ax25}
 use Rattle.ax25_address.specs.Classify.{anyHigh}
 use Rattle.kiss.specs.Codec.{codeOf}
 use Rattle.kiss.specs.Generic.{genericOf}
 use Rattle.kiss.specs.Back.{Codable, generic, plain}
 use Rattle.kiss.proofs.CodecBack.{codec-back}
-use Rattle.ax25.proofs.Examples.{plain-text, plain-binary, plain-position, plain-timestamped, plain-message}
+use Rattle.ax25.specs.Plain.{Plain}
+use Rattle.ax25.proofs.PlainLaws.{plain-both}
+use Rattle.ax25.proofs.Examples.{plain-text, plain-binary, plain-position, plain-timestamped, plain-message, plain-wide, plain-wide-message}
 use Rattle.gateway.specs.Run.{Call, push, join, reset, state, runOf, freshly}
 use Rattle.gateway.specs.Script.{Sending, Line, line, calls, answers, Mixed, finished, still, next, idleAnswer}
 use Rattle.gateway.specs.Source.{CodedFrom}
@@ -64,7 +68,7 @@ module _ (m : ℕ) (x : Sending) (a : Accepted m x) where
   unfolding linesOf
   frames-exist = frames-from (countIn x) 0 (omega arith)
 
-  pub message-exists : CodedFrom (x .message) → Message m x (linesOf m x)
+  pub message-exists : {mended : Bool} → CodedFrom mended (x .message) → Message mended m x (linesOf m x)
   message-exists c = record { source = c; sent = a .sent; frames = frames-exist }
 
 -- ---- what sender and frame ask of a message
@@ -106,24 +110,24 @@ pub ample-80 : Ample 0x80 40
 unfolding topOf mostOf
 ample-80 = record { field-ok = refl; mask-ok = refl; room = λ n l. count-within n 40 128 (omega arith) (omega arith) }
 
-module _ {m field : ℕ} (a : Ample m field) {command : ℕ} {d : List ℕ} (c : Codable command d) (l : length d ≤ 4999) where
+module _ {mended : Bool} {m field : ℕ} (a : Ample m field) {command : ℕ} {d : List ℕ} (c : Codable mended command d) (l : length d ≤ 4999) where
   abbrev pub report : Sending
-  report = record { message = codec-back c l .message; field = field; control = λ k. record { reply = 3; compressed = true; hint = 7 }; marker = λ k. 1 }
+  report = record { message = codec-back mended c l .message; field = field; control = λ k. record { reply = 3; compressed = true; hint = 7 }; marker = λ k. 1 }
 
   report-able : Sendable (report .message) field m
   report-able =
-      let b = codec-back c l in
+      let b = codec-back mended c l in
       record { field-ok = a .field-ok; mask-ok = a .mask-ok; some = b .not-empty; short = b .fits; first-low = b .first-low; room = a .room (length (b .message)) (b .fits) }
 
-  pub report-message : Message m report (linesOf m report)
+  pub report-message : Message mended m report (linesOf m report)
   report-message =
       message-exists m report (accepted-by m report report-able (λ k h. (λ e. omega arith, omega arith, omega arith)))
-      (record { command = command; original = d; codable = c; typ = codec-back c l .typ; coded = codec-back c l .coded })
+      (record { command = command; original = d; codable = c; typ = codec-back mended c l .typ; coded = codec-back mended c l .coded })
 
 -- ---- generic bytes with a high one
 
-module _ {d : List ℕ} (bytes : Bytes d) (high : anyHigh d ≡ true) (l : length d ≤ 4999) where
-  high-coded : CodedFrom (0x20 ∷ d)
+module _ {mended : Bool} {d : List ℕ} (bytes : Bytes d) (high : anyHigh d ≡ true) (l : length d ≤ 4999) where
+  high-coded : CodedFrom mended (0x20 ∷ d)
   unfolding codeOf genericOf pick
   high-coded = record { command = 2; original = d; codable = generic bytes; typ = 0; coded = rw (le-ltb 4999 (length d) l, high) }
 
@@ -155,7 +159,7 @@ module _ (m : ℕ) (ok : maskOk m ≡ true) where
   three-able =
       record { field-ok = refl; mask-ok = ok; some = omega arith; short = omega arith; first-low = omega arith; room = omega (arith, three-count, most-three m (mask-top m ok)) }
 
-  pub three-message : Message m three (linesOf m three)
+  pub three-message : {mended : Bool} → Message mended m three (linesOf m three)
   three-message =
       message-exists m three
       (accepted-by m three three-able (λ k h. (λ e. omega (arith, three-count), omega arith, omega (arith, three-count))))
@@ -200,7 +204,7 @@ many-able =
       room = ample-80 .room (length (0x20 ∷ highs)) (omega (arith, highs-size));
     }
 
-pub many-message : Message 0x80 many (linesOf 0x80 many)
+pub many-message : {mended : Bool} → Message mended 0x80 many (linesOf 0x80 many)
 many-message =
     message-exists 0x80 many
     (accepted-by 0x80 many many-able (λ k h. (λ e. omega arith, omega arith, omega arith)))
@@ -266,57 +270,79 @@ new-for : (m : ℕ) → maskOk m ≡ true → newOf m ≡ answer (freshOf m)
 unfolding newOf pick
 new-for m ok = rw ok
 
-claimed : (m : ℕ) → maskOk m ≡ true → Claim m (freshOf m) zeros
-claimed m ok = demand-3 m (freshOf m) (new-for m ok) zeros zeros-size
+claimed : (mended : Bool) (m : ℕ) → maskOk m ≡ true → Claim mended m (freshOf m) zeros
+claimed mended m ok = demand-3 mended m (freshOf m) (new-for m ok) zeros zeros-size
 
--- one of each kind, as under F0 at field 512 and under 80 at field 40
-module _ {m field : ℕ} (a : Ample m field) where
+-- one of each kind, under both readings, as under F0 at field 512 and under 80 at field 40
+module _ (mended : Bool) {m field : ℕ} (a : Ample m field) where
+  -- a frame that is plain under the original reading
+  abbrev either : {d : List ℕ} → Plain false d → Codable mended Ax25 d
+  either p = plain (plain-both mended p)
+
   abbrev pub six : List Sending
   six =
       three
-      ∷ report a (plain plain-text) (omega arith)
-      ∷ report a (plain plain-binary) (omega arith)
-      ∷ report a (plain plain-position) (omega arith)
-      ∷ report a (plain plain-timestamped) (omega arith)
-      ∷ report a (plain plain-message) (omega arith)
+      ∷ report a (either plain-text) (omega arith)
+      ∷ report a (either plain-binary) (omega arith)
+      ∷ report a (either plain-position) (omega arith)
+      ∷ report a (either plain-timestamped) (omega arith)
+      ∷ report a (either plain-message) (omega arith)
       ∷ []
 
-  pub all-kinds : Messages m six (allLines m six)
+  pub all-kinds : Messages mended m six (allLines m six)
   unfolding allLines
   all-kinds =
       message-then (three-message m (a .mask-ok))
-      (message-then (report-message a (plain plain-text) (omega arith))
-      (message-then (report-message a (plain plain-binary) (omega arith))
-      (message-then (report-message a (plain plain-position) (omega arith))
-      (message-then (report-message a (plain plain-timestamped) (omega arith))
-      (message-then (report-message a (plain plain-message) (omega arith)) no-message)))))
+      (message-then (report-message a (either plain-text) (omega arith))
+      (message-then (report-message a (either plain-binary) (omega arith))
+      (message-then (report-message a (either plain-position) (omega arith))
+      (message-then (report-message a (either plain-timestamped) (omega arith))
+      (message-then (report-message a (either plain-message) (omega arith)) no-message)))))
 
-  -- after a message that was cut off and a reset, with idle calls before, between and after all frames
-  pub heard-all : Delivered all-kinds (freshOf m) zeros cut-off (with-idle (allLines m six))
-  heard-all = claimed m (a .mask-ok) .delivers cut-off refl six (allLines m six) all-kinds (with-idle (allLines m six)) (idle-mixed (allLines m six))
+-- any list of messages, after a message that was cut off and a reset, with idle calls before, between and after all frames
+module _ {mended : Bool} {m field : ℕ} (a : Ample m field) {xs : List Sending} (ms : Messages mended m xs (allLines m xs)) where
+  abbrev pub Heard-after : Type 0
+  Heard-after = Delivered ms (freshOf m) zeros cut-off (with-idle (allLines m xs))
+
+  pub heard-after : Heard-after
+  heard-after = claimed mended m (a .mask-ok) .delivers cut-off refl xs (allLines m xs) ms (with-idle (allLines m xs)) (idle-mixed (allLines m xs))
 
   -- the first part of the claim, on the same list, with stores of zeros
-  pub forgotten : runOf (state (freshOf m) zeros) (cut-off ++ calls (with-idle (allLines m six)))
-      ≡ freshly (freshOf m) (λ past. zeros) [] (cut-off ++ calls (with-idle (allLines m six)))
-  forgotten = claimed m (a .mask-ok) .forgets (λ past. zeros) (λ past. zeros-size) (cut-off ++ calls (with-idle (allLines m six)))
+  pub forgotten : runOf (state (freshOf m) zeros) (cut-off ++ calls (with-idle (allLines m xs)))
+      ≡ freshly (freshOf m) (λ past. zeros) [] (cut-off ++ calls (with-idle (allLines m xs)))
+  forgotten = claimed mended m (a .mask-ok) .forgets (λ past. zeros) (λ past. zeros-size) (cut-off ++ calls (with-idle (allLines m xs)))
 
-pub heard-f0 : Delivered (all-kinds ample-f0) (freshOf 0xF0) zeros cut-off (with-idle (allLines 0xF0 (six ample-f0)))
-heard-f0 = heard-all ample-f0
+pub heard-f0 : (mended : Bool) → Heard-after ample-f0 (all-kinds mended ample-f0)
+heard-f0 mended = heard-after ample-f0 (all-kinds mended ample-f0)
 
-pub heard-80 : Delivered (all-kinds ample-80) (freshOf 0x80) zeros cut-off (with-idle (allLines 0x80 (six ample-80)))
-heard-80 = heard-all ample-80
+pub heard-80 : (mended : Bool) → Heard-after ample-80 (all-kinds mended ample-80)
+heard-80 mended = heard-after ample-80 (all-kinds mended ample-80)
+
+-- under the mended reading, with WIDE2-2 as a digipeater and as an addressee before those six
+module _ {m field : ℕ} (a : Ample m field) where
+  abbrev pub eight-mended : List Sending
+  eight-mended = report a (plain plain-wide) (omega arith) ∷ report a (plain plain-wide-message) (omega arith) ∷ six true a
+
+  pub all-mended : Messages true m eight-mended (allLines m eight-mended)
+  unfolding allLines
+  all-mended =
+      message-then (report-message a (plain plain-wide) (omega arith))
+      (message-then (report-message a (plain plain-wide-message) (omega arith)) (all-kinds true a))
+
+pub heard-mended : Heard-after ample-f0 (all-mended ample-f0)
+heard-mended = heard-after ample-f0 (all-mended ample-f0)
 
 -- one message alone
-pub alone : {m : ℕ} (x : Sending) → Message m x (linesOf m x) → Messages m (x ∷ []) (allLines m (x ∷ []))
+pub alone : {mended : Bool} {m : ℕ} (x : Sending) → Message mended m x (linesOf m x) → Messages mended m (x ∷ []) (allLines m (x ∷ []))
 unfolding allLines
 alone x message = message-then message no-message
 
 -- under every mask, 7 check bits among them, after a fragment below 80
-pub heard-three : (m : ℕ) (ok : maskOk m ≡ true) → Delivered (alone three (three-message m ok)) (freshOf m) zeros low-end (with-idle (allLines m (three ∷ [])))
-heard-three m ok =
-    claimed m ok .delivers low-end refl (three ∷ []) (allLines m (three ∷ [])) (alone three (three-message m ok)) (with-idle (allLines m (three ∷ []))) (idle-mixed (allLines m (three ∷ [])))
+pub heard-three : (mended : Bool) (m : ℕ) (ok : maskOk m ≡ true) → Delivered (alone {mended = mended} three (three-message m ok)) (freshOf m) zeros low-end (with-idle (allLines m (three ∷ [])))
+heard-three mended m ok =
+    claimed mended m ok .delivers low-end refl (three ∷ []) (allLines m (three ∷ [])) (alone three (three-message m ok)) (with-idle (allLines m (three ∷ []))) (idle-mixed (allLines m (three ∷ [])))
 
 -- with one check bit, in 129 fragments
-pub heard-many : Delivered (alone many many-message) (freshOf 0x80) zeros low-end (with-idle (allLines 0x80 (many ∷ [])))
-heard-many =
-    claimed 0x80 (ample-80 .mask-ok) .delivers low-end refl (many ∷ []) (allLines 0x80 (many ∷ [])) (alone many many-message) (with-idle (allLines 0x80 (many ∷ []))) (idle-mixed (allLines 0x80 (many ∷ [])))
+pub heard-many : (mended : Bool) → Delivered (alone {mended = mended} many many-message) (freshOf 0x80) zeros low-end (with-idle (allLines 0x80 (many ∷ [])))
+heard-many mended =
+    claimed mended 0x80 (ample-80 .mask-ok) .delivers low-end refl (many ∷ []) (allLines 0x80 (many ∷ [])) (alone many many-message) (with-idle (allLines 0x80 (many ∷ []))) (idle-mixed (allLines 0x80 (many ∷ [])))

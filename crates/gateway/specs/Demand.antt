@@ -1,8 +1,8 @@
 -- Demand 3: one claim about one list of calls on a new receiver and its store. Sentences in quotes are demand 3's, and document 01's in "The
--- list of demand 3".
+-- list of demand 3". The decoder's reading is a parameter: false is the original one, true the mended one of document 02, E5.
 -- Assumes nothing.
 use mathlib.Core.Path.{_≡_}
-use mathlib.Core.Bool.{true}
+use mathlib.Core.Bool.{Bool, true}
 use mathlib.Core.List.{List, [], _∷_, _++_}
 use mathlib.Core.Option.{some}
 use Prim.Native.Nat.{ℕ, suc, _≤_, _<_}
@@ -41,16 +41,16 @@ pub data Frames (mask : ℕ) (x : Sending) : ℕ → List Line → Type 0 where
 
 -- One message of the list: it "is coded from generic bytes or a plain AX.25 frame as in 01, accepted by the sender under this receiver's mask
 -- and a field size of its own, framed and pushed with that size in order".
-pub record Message (mask : ℕ) (x : Sending) (ls : List Line) : Type 0 where
-  pub source : CodedFrom (x .message)
+pub record Message (mended : Bool) (mask : ℕ) (x : Sending) (ls : List Line) : Type 0 where
+  pub source : CodedFrom mended (x .message)
   pub sent : accepted (sendOf (x .message) (x .field) mask 0) ≡ true
   pub frames : Frames mask x 0 ls
 
 -- "any list of messages", the frames of each after those of the one before it.
-pub data Messages (mask : ℕ) : List Sending → List Line → Type 0 where
-  no-message : Messages mask [] []
+pub data Messages (mended : Bool) (mask : ℕ) : List Sending → List Line → Type 0 where
+  no-message : Messages mended mask [] []
   message-then : {x : Sending} {xs : List Sending} {ls rest : List Line}
-      → Message mask x ls → Messages mask xs rest → Messages mask (x ∷ xs) (ls ++ rest)
+      → Message mended mask x ls → Messages mended mask xs rest → Messages mended mask (x ∷ xs) (ls ++ rest)
 
 -- ---- what the sender and the decoder answer for each of them
 
@@ -65,7 +65,7 @@ pub record Fragment (mask : ℕ) (x : Sending) (k : ℕ) : Type 0 where
   pub short : (out : List ℕ) → length out < length bytes → into (sendOf (x .message) (x .field) mask k) out ≡ left (refused 6) out
 
 -- What holds of a message with the lines ls.
-pub record Whole (mask : ℕ) (x : Sending) (ls : List Line) (c : CodedFrom (x .message)) : Type 0 where
+pub record Whole (mended : Bool) (mask : ℕ) (x : Sending) (ls : List Line) (c : CodedFrom mended (x .message)) : Type 0 where
   -- "Each message has exactly its counted fragments": `count_for_field` answers the number of its frames.
   pub counted : countFor (length (x .message)) (x .field) ≡ answer (length ls)
   -- "Of each message the sender hands out fragments 0 to count − 1, or answers 6 where the output for one is too short".
@@ -75,19 +75,19 @@ pub record Whole (mask : ℕ) (x : Sending) (ls : List Line) (c : CodedFrom (x .
   -- "the decoder answers them with the original bytes": where its lent output has room, they stand at its front, and their number and their
   -- command are answered; what lies past them is unchanged.
   pub decoded : (out : List ℕ) → length (c .original) ≤ length out
-      → decodeInto (decodeOf (x .message)) out ≡ (answer (length (c .original), c .command), c .original ++ drop (length (c .original)) out)
+      → decodeInto (decodeOf mended (x .message)) out ≡ (answer (length (c .original), c .command), c .original ++ drop (length (c .original)) out)
   -- "or with 6 where its lent output is shorter", and the output is unchanged.
-  pub decoded-short : (out : List ℕ) → length out < length (c .original) → decodeInto (decodeOf (x .message)) out ≡ (refused 6, out)
+  pub decoded-short : (out : List ℕ) → length out < length (c .original) → decodeInto (decodeOf mended (x .message)) out ≡ (refused 6, out)
 
 -- Each message of a list is whole.
-abbrev pub AllWhole : {mask : ℕ} {xs : List Sending} {ps : List Line} → Messages mask xs ps → Type 0
+abbrev pub AllWhole : {mended : Bool} {mask : ℕ} {xs : List Sending} {ps : List Line} → Messages mended mask xs ps → Type 0
 AllWhole no-message = Unit {0}
-AllWhole {mask} (message-then {x = x} {ls = ls} m ms) = Whole mask x ls (m .source) × AllWhole ms
+AllWhole {mended} {mask} (message-then {x = x} {ls = ls} m ms) = Whole mended mask x ls (m .source) × AllWhole ms
 
 -- ---- the claim
 
 -- What holds of the calls of ls after the calls `before`, in one list from the start.
-pub record Delivered {mask : ℕ} {xs : List Sending} {ps : List Line} (ms : Messages mask xs ps)
+pub record Delivered {mended : Bool} {mask : ℕ} {xs : List Sending} {ps : List Line} (ms : Messages mended mask xs ps)
     (r : Reassembler) (store : List ℕ) (before : List Call) (ls : List Line) : Type 0 where
   -- Each call of ls has its answer.
   pub answered : runOf (state r store) (before ++ calls ls) ≡ runOf (state r store) before ++ answers ls
@@ -97,7 +97,7 @@ pub record Delivered {mask : ℕ} {xs : List Sending} {ps : List Line} (ms : Mes
   pub whole : AllWhole ms
 
 -- The claim about every list of calls on the receiver r and the store.
-pub record Claim (mask : ℕ) (r : Reassembler) (store : List ℕ) : Type 0 where
+pub record Claim (mended : Bool) (mask : ℕ) (r : Reassembler) (store : List ℕ) : Type 0 where
   -- "For every list of pushes, joins and resets on them, refused ones included, each answer is the one that a fresh receiver gives to the
   -- same call after only the calls since the last ending before it, or since the start." The fresh receiver "has the same mask and 5,000
   -- store bytes of its own, whatever they hold": for each call another store, chosen by the calls before it.
@@ -105,9 +105,9 @@ pub record Claim (mask : ℕ) (r : Reassembler) (store : List ℕ) : Type 0 wher
       → (cs : List Call) → runOf (state r store) cs ≡ freshly r stores [] cs
   -- "Now let the list be empty or stop with an ending, and let any list of messages follow", with idle calls anywhere between.
   pub delivers : (before : List Call) → settled before ≡ true
-      → (xs : List Sending) (ps : List Line) (ms : Messages mask xs ps) (ls : List Line) → Mixed ps ls
+      → (xs : List Sending) (ps : List Line) (ms : Messages mended mask xs ps) (ls : List Line) → Mixed ps ls
       → Delivered ms r store before ls
 
--- Demand 3. "The list starts with a new receiver of an accepted mask and one store of 5,000 bytes, whatever they hold."
-abbrev pub Demand3 : Type 0
-Demand3 = (mask : ℕ) (r : Reassembler) → newOf mask ≡ answer r → (store : List ℕ) → length store ≡ 5000 → Claim mask r store
+-- Demand 3, by the decoder's reading. "The list starts with a new receiver of an accepted mask and one store of 5,000 bytes, whatever they hold."
+abbrev pub Demand3 : Bool → Type 0
+Demand3 mended = (mask : ℕ) (r : Reassembler) → newOf mask ≡ answer r → (store : List ℕ) → length store ≡ 5000 → Claim mended mask r store

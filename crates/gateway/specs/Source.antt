@@ -1,6 +1,7 @@
 -- Messages that are coded from generic bytes and plain frames, and what is handed out.
 -- Assumes nothing.
 use mathlib.Core.Path.{_≡_}
+use mathlib.Core.Bool.{Bool}
 use mathlib.Core.List.{List, [], _∷_}
 use mathlib.Core.Option.{Option, none, some}
 use Prim.Native.Nat.{ℕ}
@@ -11,11 +12,12 @@ use Rattle.kiss.specs.Back.{Codable}
 use Rattle.gateway.specs.Script.{Sending}
 
 -- "Each is coded from generic bytes or a plain AX.25 frame as in 01": the command, the original bytes, and that the coder answers them with
--- this message and a type.
-pub record CodedFrom (message : List ℕ) : Type 0 where
+-- this message and a type. By the reading that it is to be decoded with: "Under the mended reading the four WIDE calls count as clean and the
+-- end-to-end statement includes them" (02, E5).
+pub record CodedFrom (mended : Bool) (message : List ℕ) : Type 0 where
   pub command : ℕ
   pub original : List ℕ
-  pub codable : Codable command original
+  pub codable : Codable mended command original
   pub typ : ℕ
   pub coded : codeOf command original ≡ answer (record { bytes = message; typ = typ })
 

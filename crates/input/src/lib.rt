@@ -152,6 +152,13 @@ pub fn next(s: Stand, chunk: &mut [u8], line: &mut [u8]) -> Stand
     stand
 }
 
+// Word i of the command line is this one; the program's own name is word 0.
+pub fn is_word(i: usize, word: &[u8]) -> bool {
+    let mut text = io::buffer();
+    let n = os::arg(i, &mut text);
+    check::same(&text[..n], word)
+}
+
 // A number of the command line.
 fn number_at(i: usize) -> Number {
     let mut text = io::buffer();
@@ -159,9 +166,17 @@ fn number_at(i: usize) -> Number {
     decimal(&text[..n])
 }
 
-// The two numbers of the command line, and nothing else.
-pub fn numbers() -> Arguments {
-    if os::arg_count() != 3 {
+// How many words the command line has: the program's name and two numbers, and one word more where that is so.
+fn words(with_word: bool) -> usize {
+    if with_word {
+        return 4;
+    }
+    3
+}
+
+// The two numbers of the command line, with a word after them or with nothing.
+pub fn numbers(with_word: bool) -> Arguments {
+    if os::arg_count() != words(with_word) {
         return Arguments::Other;
     }
     let Number::Is(a) = number_at(1) else {

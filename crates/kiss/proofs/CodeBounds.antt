@@ -2,7 +2,7 @@
 -- at most 2.
 -- Assumes nothing.
 use mathlib.Core.Path.{_≡_, sym}
-use mathlib.Core.Bool.{false}
+use mathlib.Core.Bool.{Bool, false}
 use mathlib.Core.List.{List, [], _∷_}
 use mathlib.Core.Option.{Option, none, some}
 use Prim.Native.Nat.{ℕ, _/_, _%_, _≤_}
@@ -66,9 +66,9 @@ seven-command : (c : ℕ) (o : Option (List ℕ)) (r : Decoded) → orSeven c o 
 seven-command c none r e = absurd (answer-not (sym e))
 seven-command c (some d) r e = same-command e
 
-header-command : (header : ℕ) (rest : List ℕ) (r : Decoded) → decodeMessage header rest ≡ answer r → r .command ≤ 2
+header-command : (mended : Bool) (header : ℕ) (rest : List ℕ) (r : Decoded) → decodeMessage mended header rest ≡ answer r → r .command ≤ 2
 unfolding decodeMessage pick
-header-command header rest r e =
+header-command mended header rest r e =
     by-test (eqb (header / 16 % 4) 3)
     (λ t. absurd (answer-not (sym (rw t at e))))
     (λ t. by-test (eqb (header / 16 % 4) 2)
@@ -77,10 +77,10 @@ header-command header rest r e =
     omega arith)
     (λ u.
     let is : header / 16 % 4 ≡ r .command =
-    seven-command (header / 16 % 4) (readFrame (callLen (header / 16 % 4)) header (unpack rest)) r (rw (t, u) at e) in
+    seven-command (header / 16 % 4) (readFrame mended (callLen (header / 16 % 4)) header (unpack rest)) r (rw (t, u) at e) in
     omega (arith, is, eqb-false (header / 16 % 4) 3 t)))
 
-pub decode-command : (m : List ℕ) (r : Decoded) → decodeOf m ≡ answer r → r .command ≤ 2
+pub decode-command : (mended : Bool) (m : List ℕ) (r : Decoded) → decodeOf mended m ≡ answer r → r .command ≤ 2
 unfolding decodeOf decodeSome
-decode-command [] r e = absurd (answer-not (sym (past _ _ _ _ e .1)))
-decode-command (header ∷ rest) r e = header-command header rest r (past _ _ _ _ e .1)
+decode-command mended [] r e = absurd (answer-not (sym (past _ _ _ _ e .1)))
+decode-command mended (header ∷ rest) r e = header-command mended header rest r (past _ _ _ _ e .1)

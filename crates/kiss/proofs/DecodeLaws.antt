@@ -1,6 +1,7 @@
 -- The cases of a message, by its tests, and of a frame that is read in two runs, of which the first measures.
 -- Assumes nothing.
 use mathlib.Core.Path.{_≡_, refl, ap, _∙_}
+use mathlib.Core.Bool.{Bool}
 use mathlib.Core.List.{List, [], _∷_, _++_}
 use mathlib.Core.Option.{Option, none, some}
 use Prim.Native.Nat.{ℕ, _+_, _-_, _/_, _%_, _≤_, _<_}
@@ -24,45 +25,45 @@ use Rattle.kiss.proofs.TellLaws.{tell-refused, tell-short, tell-fits}
 
 -- ---- the tests
 
-no-byte : (m : List ℕ) → length m ≡ 0 → decodeSome m ≡ refused 7
+no-byte : (mended : Bool) (m : List ℕ) → length m ≡ 0 → decodeSome mended m ≡ refused 7
 unfolding decodeSome
-no-byte [] e = refl
-no-byte (x ∷ m) e = absurd (omega arith)
+no-byte mended [] e = refl
+no-byte mended (x ∷ m) e = absurd (omega arith)
 
-first-byte : (m : List ℕ) → 0 < length m → decodeSome m ≡ decodeMessage (getD m 0 0) (drop 1 m)
+first-byte : (mended : Bool) (m : List ℕ) → 0 < length m → decodeSome mended m ≡ decodeMessage mended (getD m 0 0) (drop 1 m)
 unfolding decodeSome
-first-byte [] h = absurd (omega arith)
-first-byte (x ∷ m) h = refl
+first-byte mended [] h = absurd (omega arith)
+first-byte mended (x ∷ m) h = refl
 
-module _ (m : List ℕ) where
-  pub too-long : 5000 < length m → decodeOf m ≡ refused 2
+module _ (mended : Bool) (m : List ℕ) where
+  pub too-long : 5000 < length m → decodeOf mended m ≡ refused 2
   unfolding decodeOf
   too-long h = pick-true _ _ (lt-ltb 5000 (length m) h)
 
-  not-long : length m ≤ 5000 → decodeOf m ≡ decodeSome m
+  not-long : length m ≤ 5000 → decodeOf mended m ≡ decodeSome mended m
   unfolding decodeOf
   not-long h = pick-false _ _ (le-ltb 5000 (length m) h)
 
-  pub of-empty : length m ≡ 0 → decodeOf m ≡ refused 7
-  of-empty e = not-long (omega arith) ∙ no-byte m e
+  pub of-empty : length m ≡ 0 → decodeOf mended m ≡ refused 7
+  of-empty e = not-long (omega arith) ∙ no-byte mended m e
 
   module _ (h : length m ≤ 5000) (k : length m ≡ 0 → ⊥) where
-    by-header : decodeOf m ≡ decodeMessage (getD m 0 0) (drop 1 m)
-    by-header = not-long h ∙ first-byte m (by-eq (length m) 0 (λ e. absurd (k e)) (λ e. omega arith))
+    by-header : decodeOf mended m ≡ decodeMessage mended (getD m 0 0) (drop 1 m)
+    by-header = not-long h ∙ first-byte mended m (by-eq (length m) 0 (λ e. absurd (k e)) (λ e. omega arith))
 
     abbrev asked : ℕ
     asked = getD m 0 0 / 16 % 4
 
-    pub of-three : asked ≡ 3 → decodeOf m ≡ refused 7
+    pub of-three : asked ≡ 3 → decodeOf mended m ≡ refused 7
     unfolding decodeMessage
     of-three e = by-header ∙ pick-true _ _ (eq-eqb asked 3 e)
 
     module _ (e : asked ≡ 3 → ⊥) where
-      pub of-two : asked ≡ 2 → decodeOf m ≡ answer (record { command = Generic; bytes = genericBack (getD m 0 0) (drop 1 m) })
+      pub of-two : asked ≡ 2 → decodeOf mended m ≡ answer (record { command = Generic; bytes = genericBack (getD m 0 0) (drop 1 m) })
       unfolding decodeMessage
       of-two f = by-header ∙ pick-false _ _ (ne-eqb asked 3 e) ∙ pick-true _ _ (eq-eqb asked 2 f)
 
-      pub of-other : (asked ≡ 2 → ⊥) → decodeOf m ≡ orSeven asked (readFrame (callLen asked) (getD m 0 0) (unpack (drop 1 m)))
+      pub of-other : (asked ≡ 2 → ⊥) → decodeOf mended m ≡ orSeven asked (readFrame mended (callLen asked) (getD m 0 0) (unpack (drop 1 m)))
       unfolding decodeMessage
       of-other f = by-header ∙ pick-false _ _ (ne-eqb asked 3 e) ∙ pick-false _ _ (ne-eqb asked 2 f)
 
@@ -76,9 +77,9 @@ letters command l e =
 -- ---- a frame in two runs
 
 -- the part behind the first byte is what follows it
-same-frame : (command l h : ℕ) (m : List ℕ) → l ≡ callLen command
-    → readFrame l h (unpack (take (length m - 1) (drop 1 m))) ≡ readFrame (callLen command) h (unpack (drop 1 m))
-same-frame command l h m e = rw (e, from-place m 1)
+same-frame : (mended : Bool) (command l h : ℕ) (m : List ℕ) → l ≡ callLen command
+    → readFrame mended l h (unpack (take (length m - 1) (drop 1 m))) ≡ readFrame mended (callLen command) h (unpack (drop 1 m))
+same-frame mended command l h m e = rw (e, from-place m 1)
 
 pub no-bytes : (x : List ℕ) → length x ≡ 0 → x ≡ []
 no-bytes [] e = refl
@@ -110,15 +111,15 @@ module _ (command : ℕ) (out x : List ℕ) (r : Got) where
         tell-fits (λ d. d .bytes) (λ d. d .command) out (record { command = command; bytes = v }) {o = orSeven command (some v)} refl (sized v m) h (w .1)
 
 -- the same of a frame, which is read from the part behind the header
-module _ (command l h : ℕ) (m : List ℕ) (p : l ≡ callLen command) (out x : List ℕ) (r : Got) where
+module _ (mended : Bool) (command l h : ℕ) (m : List ℕ) (p : l ≡ callLen command) (out x : List ℕ) (r : Got) where
   abbrev part : Option (List ℕ)
-  part = readFrame l h (unpack (take (length m - 1) (drop 1 m)))
+  part = readFrame mended l h (unpack (take (length m - 1) (drop 1 m)))
 
   abbrev told : Outcome (ℕ × ℕ) × List ℕ
-  told = decodeInto (orSeven command (readFrame (callLen command) h (unpack (drop 1 m)))) out
+  told = decodeInto (orSeven command (readFrame mended (callLen command) h (unpack (drop 1 m)))) out
 
   same-told : decodeInto (orSeven command part) out ≡ told
-  same-told = ap (λ (o : Option (List ℕ)). decodeInto (orSeven command o) out) (same-frame command l h m p)
+  same-told = ap (λ (o : Option (List ℕ)). decodeInto (orSeven command o) out) (same-frame mended command l h m p)
 
   module _ (w : Reads part [] 0 x r) where
     pub frame-none : r ≡ Nothing → length x ≡ 0 → (refused 7, x ++ out) ≡ told

@@ -23,11 +23,11 @@ use Rattle.kiss.specs.Codec.{codeOf, Decoded, decodeMessage, decodeSome,
 use Rattle.kiss.specs.Back.{Back}
 
 -- a message of a header and at most 4,999 bytes
-pub decode-at : (header : ℕ) (rest : List ℕ) (o : Outcome Decoded) → length rest ≤ 4999 → decodeMessage header rest ≡ o → decodeOf (header ∷ rest) ≡ o
+pub decode-at : (mended : Bool) (header : ℕ) (rest : List ℕ) (o : Outcome Decoded) → length rest ≤ 4999 → decodeMessage mended header rest ≡ o → decodeOf mended (header ∷ rest) ≡ o
 unfolding decodeOf decodeSome
-decode-at header rest o l e = pick-false _ _ (le-ltb _ (suc (length rest)) (omega arith)) ∙ e
+decode-at mended header rest o l e = pick-false _ _ (le-ltb _ (suc (length rest)) (omega arith)) ∙ e
 
-module _ (d : List ℕ) (l : length d ≤ 4999) where
+module _ (mended : Bool) (d : List ℕ) (l : length d ≤ 4999) where
   generic-coded : codeOf Generic d ≡ answer (record { bytes = genericOf d; typ = Text })
   unfolding codeOf pick
   generic-coded = rw (le-ltb 4999 (length d) l)
@@ -35,15 +35,15 @@ module _ (d : List ℕ) (l : length d ≤ 4999) where
   abbrev bits : List Bool
   bits = text7Bits 0 false d
 
-  high-read : decodeMessage 0x20 d ≡ answer (record { command = Generic; bytes = d })
+  high-read : decodeMessage mended 0x20 d ≡ answer (record { command = Generic; bytes = d })
   unfolding decodeMessage genericBack odd pick
   high-read = refl
 
-  low-read : anyHigh d ≡ false → decodeMessage 0x21 (pack bits) ≡ answer (record { command = Generic; bytes = d })
+  low-read : anyHigh d ≡ false → decodeMessage mended 0x21 (pack bits) ≡ answer (record { command = Generic; bytes = d })
   unfolding decodeMessage genericBack odd pick lastOr
   low-read e = rw (unpack-whole bits (omega (arith, length-text7 0 false d)), text7-back [] d (none-high d e))
 
-  generic-high : anyHigh d ≡ true → Back Generic d
+  generic-high : anyHigh d ≡ true → Back mended Generic d
   unfolding genericOf pick
   generic-high e =
       record {
@@ -53,10 +53,10 @@ module _ (d : List ℕ) (l : length d ≤ 4999) where
         not-empty = omega arith;
         first-low = omega arith;
         fits = omega arith;
-        back = decode-at 0x20 d (answer (record { command = Generic; bytes = d })) l high-read;
+        back = decode-at mended 0x20 d (answer (record { command = Generic; bytes = d })) l high-read;
       }
 
-  generic-low : anyHigh d ≡ false → Back Generic d
+  generic-low : anyHigh d ≡ false → Back mended Generic d
   unfolding genericOf pick
   generic-low e =
       let size : length (pack bits) ≤ 4999 = omega (arith, length-pack bits, length-text7 0 false d) in
@@ -67,8 +67,8 @@ module _ (d : List ℕ) (l : length d ≤ 4999) where
         not-empty = omega arith;
         first-low = omega arith;
         fits = omega arith;
-        back = decode-at 0x21 (pack bits) (answer (record { command = Generic; bytes = d })) size (low-read e);
+        back = decode-at mended 0x21 (pack bits) (answer (record { command = Generic; bytes = d })) size (low-read e);
       }
 
-  pub generic-back : Back Generic d
+  pub generic-back : Back mended Generic d
   generic-back = by-test (anyHigh d) generic-high generic-low

@@ -4,6 +4,7 @@ pub mod DecodeLaws
 pub mod EncodeLaws
 pub mod GenericBack
 pub mod GenericLaws
+pub mod ReadingLaws
 pub mod SummaryLaws
 pub mod TellLaws
 pub mod UiLaws

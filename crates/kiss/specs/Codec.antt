@@ -55,16 +55,16 @@ orSeven command none = refused 7
 orSeven command (some d) = answer (record { command = command; bytes = d })
 
 -- by bits 4 and 5 of the header: 0 and 1 are frames, 2 is generic
-unfoldable pub decodeMessage : ℕ → List ℕ → Outcome Decoded
-decodeMessage header rest =
+unfoldable pub decodeMessage : Bool → ℕ → List ℕ → Outcome Decoded
+decodeMessage mended header rest =
     pick (eqb (header / 16 % 4) 3) (refused 7)
     (pick (eqb (header / 16 % 4) 2) (answer (record { command = Generic; bytes = genericBack header rest }))
-    (orSeven (header / 16 % 4) (readFrame (callLen (header / 16 % 4)) header (unpack rest))))
+    (orSeven (header / 16 % 4) (readFrame mended (callLen (header / 16 % 4)) header (unpack rest))))
 
-unfoldable pub decodeSome : List ℕ → Outcome Decoded
-decodeSome [] = refused 7
-decodeSome (header ∷ rest) = decodeMessage header rest
+unfoldable pub decodeSome : Bool → List ℕ → Outcome Decoded
+decodeSome mended [] = refused 7
+decodeSome mended (header ∷ rest) = decodeMessage mended header rest
 
--- "Decoder 2, 7"
-unfoldable pub decodeOf : List ℕ → Outcome Decoded
-decodeOf m = pick (ltb 5000 (length m)) (refused 2) (decodeSome m)
+-- "Decoder 2, 7"; "The caller of the decoder may choose a mended reading" (02, E5): false is the original one
+unfoldable pub decodeOf : Bool → List ℕ → Outcome Decoded
+decodeOf mended m = pick (ltb 5000 (length m)) (refused 2) (decodeSome mended m)

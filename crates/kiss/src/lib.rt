@@ -116,24 +116,25 @@ fn decode_generic(message: &[u8], out: &mut [u8]) -> Decoded
 }
 
 // The frame of a message: the first run measures here too.
-fn decode_frame(message: &[u8], command: u8, out: &mut [u8]) -> Decoded
+fn decode_frame(message: &[u8], command: u8, out: &mut [u8], mended: bool) -> Decoded
     requires { ⌜ (0 < length (now message)) × (length (now message) ≤ 5000) ⌝ }
-    ensures { λ r. ⌜ (decodedOf r, now (out .exit)) ≡ decodeInto (orSeven command (readFrame (callLen command) (getD (now (message .entry)) 0 0) (unpack (drop 1 (now (message .entry)))))) (now (out .entry)) ⌝ }
+    ensures { λ r. ⌜ (decodedOf r, now (out .exit)) ≡ decodeInto (orSeven command (readFrame mended (callLen command) (getD (now (message .entry)) 0 0) (unpack (drop 1 (now (message .entry)))))) (now (out .entry)) ⌝ }
 {
     let l = ax25_address::record::call_len(command);
-    let Got::Next(needed) = ax25_decode::decode(&message[1..], message[0], l, &mut out[..0]) else {
+    let Got::Next(needed) = ax25_decode::decode(&message[1..], message[0], l, &mut out[..0], mended)
+    else {
         return Decoded::Refused(NOT_DECODED);
     };
     if out.len() < needed {
         return Decoded::Refused(OUTPUT);
     }
-    ax25_decode::decode(&message[1..], message[0], l, out);
+    ax25_decode::decode(&message[1..], message[0], l, out, mended);
     Decoded::Bytes(command, needed)
 }
 
-// The bytes that a message was coded from.
-pub fn decode(message: &[u8], out: &mut [u8]) -> Decoded
-    ensures { λ r. ⌜ (decodedOf r, now (out .exit)) ≡ decodeInto (decodeOf (now (message .entry))) (now (out .entry)) ⌝ }
+// The bytes that a message was coded from. Mended: the last two bits of a WIDE token are a binary number; the original reading takes them as decimal digits.
+pub fn decode(message: &[u8], mended: bool, out: &mut [u8]) -> Decoded
+    ensures { λ r. ⌜ (decodedOf r, now (out .exit)) ≡ decodeInto (decodeOf mended (now (message .entry))) (now (out .entry)) ⌝ }
 {
     if MAX_MESSAGE < message.len() {
         return Decoded::Refused(TOO_LONG);
@@ -148,5 +149,5 @@ pub fn decode(message: &[u8], out: &mut [u8]) -> Decoded
     if command == 2 {
         return decode_generic(message, out);
     }
-    decode_frame(message, command, out)
+    decode_frame(message, command, out, mended)
 }

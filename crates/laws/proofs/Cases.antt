@@ -28,6 +28,10 @@ module _ {ℓ} {P : Type ℓ} where
   pub by-eq : (a b : ℕ) → (a ≡ b → P) → ((a ≡ b → ⊥) → P) → P
   by-eq a b f g = by-test (eqb a b) (λ e. f (eqb-true a b e)) (λ e. g (eqb-false a b e))
 
+  pub by-option : {A : Type 0} (o : Option A) → (o ≡ none → P) → ((a : A) → o ≡ some a → P) → P
+  by-option none f g = f refl
+  by-option (some a) f g = g a refl
+
 -- ---- tests taken apart
 
 pub and-left : (a b : Bool) → (a && b) ≡ true → a ≡ true

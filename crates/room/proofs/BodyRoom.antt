@@ -66,19 +66,19 @@ filled-size : (n : ℕ) (s : List ℕ) → length (filled n s) ≡ length s + (n
 unfolding filled
 filled-size n s = rw (length-append, length-replicate)
 
-message-room : (l : ℕ) (b : List Bool) (i : List ℕ) → readMessage l b ≡ some i → Short b i
+message-room : (mended : Bool) (l : ℕ) (b : List Bool) (i : List ℕ) → readMessage mended l b ≡ some i → Short b i
 unfolding readMessage
-message-room l b i e =
-    from-some (readToken l b) _ i e
+message-room mended l b i e =
+    from-some (readToken mended l b) _ i e
     (λ c ec f.
     let t = readText false (c .1) in
-    let k = token-room l b c ec in
+    let k = token-room mended l b c ec in
     rw (← Option·some-injective (0x3A ∷ filled 9 (c .0) ++ 0x3A ∷ t) i f)
     (omega (arith, length-append (filled 9 (c .0)) (0x3A ∷ t), filled-size 9 (c .0), plain-room (c .1))))
 
-pub body-room : (typ l : ℕ) (b : List Bool) (i : List ℕ) → readBody typ l b ≡ some i → Short b i
+pub body-room : (mended : Bool) (typ l : ℕ) (b : List Bool) (i : List ℕ) → readBody mended typ l b ≡ some i → Short b i
 unfolding readBody pick
-body-room typ l b i e =
+body-room mended typ l b i e =
     by-test (eqb typ Text)
     (λ t. rw (← Option·some-injective (readText false b) i (rw t at e)) (omega (arith, plain-room b)))
     (λ t. by-test (eqb typ Position)
@@ -86,7 +86,7 @@ body-room typ l b i e =
     (λ p ep f. rw (← Option·some-injective (0x21 ∷ p) i f) (let h = place-room b p ep in omega arith)))
     (λ u. by-test (eqb typ TimestampedPosition)
     (λ v. timestamped-room b i (rw (t, u, v) at e))
-    (λ v. message-room l b i (rw (t, u, v) at e))))
+    (λ v. message-room mended l b i (rw (t, u, v) at e))))
 
 -- ---- the third party
 
@@ -105,18 +105,18 @@ partyOf a c d t = ascii "}" ++ (a ++ (ascii ">" ++ (c ++ (ascii ",TCPIP," ++ (d 
 pub party-size : (a c d t : List ℕ) → length (partyOf a c d t) ≡ 11 + (length a + length c + length d) + length t
 party-size a c d t = simp length-append (omega arith)
 
-pub third-room : (l : ℕ) (b : List Bool) (i : List ℕ) → readThird l b ≡ some i → Passed b i
+pub third-room : (mended : Bool) (l : ℕ) (b : List Bool) (i : List ℕ) → readThird mended l b ≡ some i → Passed b i
 unfolding readThird
-third-room l b i e =
-    from-some (readToken l b) _ i e
-    (λ c ec f. from-some (readToken l (c .1)) _ i f
-    (λ d ed g. from-some (readToken l (d .1)) _ i g
+third-room mended l b i e =
+    from-some (readToken mended l b) _ i e
+    (λ c ec f. from-some (readToken mended l (c .1)) _ i f
+    (λ d ed g. from-some (readToken mended l (d .1)) _ i g
     (λ p ep h. from-some (takeBits 2 (p .1)) _ i h
-    (λ k ek m. from-some (readBody (innerType l (k .0)) l (k .1)) _ i m
+    (λ k ek m. from-some (readBody mended (innerType (k .0)) l (k .1)) _ i m
     (λ t et n.
-    let x = token-room l b c ec in
-    let y = token-room l (c .1) d ed in
-    let z = token-room l (d .1) p ep in
+    let x = token-room mended l b c ec in
+    let y = token-room mended l (c .1) d ed in
+    let z = token-room mended l (d .1) p ep in
     let u = take-left 2 (p .1) k ek .0 in
     rw (← Option·some-injective (partyOf (c .0) (d .0) (p .0) t) i n)
     (record {
@@ -125,5 +125,5 @@ third-room l b i e =
       three = omega arith;
       each = omega arith;
       within = omega arith;
-      size = omega (arith, party-size (c .0) (d .0) (p .0) t, body-room (innerType l (k .0)) l (k .1) t et);
+      size = omega (arith, party-size (c .0) (d .0) (p .0) t, body-room mended (innerType (k .0)) l (k .1) t et);
     }))))))

@@ -1,6 +1,7 @@
--- How many bytes a message is decoded to: 45,764 at most, whatever it is.
+-- How many bytes a message is decoded to: 45,764 at most, whatever it is, under both readings.
 -- Assumes nothing.
 use mathlib.Core.Path.{_≡_, refl, sym}
+use mathlib.Core.Bool.{Bool}
 use mathlib.Core.List.{List, [], _∷_}
 use mathlib.Core.Option.{Option, none, some, Option·getD}
 use Prim.Native.Nat.{ℕ, _-_, _/_, _%_, _≤_}
@@ -45,9 +46,9 @@ call-low : (command : ℕ) → callLen command ≤ 7
 unfolding pick
 call-low command = by-test (eqb command Ax25Long) (λ e. rw e (omega arith)) (λ e. rw e (omega arith))
 
-message-room : (header : ℕ) (rest : List ℕ) (r : Decoded) → length rest ≤ 4999 → decodeMessage header rest ≡ answer r → length (r .bytes) ≤ mostDecoded
+message-room : (mended : Bool) (header : ℕ) (rest : List ℕ) (r : Decoded) → length rest ≤ 4999 → decodeMessage mended header rest ≡ answer r → length (r .bytes) ≤ mostDecoded
 unfolding decodeMessage pick
-message-room header rest r h e =
+message-room mended header rest r h e =
     let k = header / 16 % 4 in
     by-test (eqb k 3)
     (λ t. absurd (answer-not (sym (rw t at e))))
@@ -55,20 +56,20 @@ message-room header rest r h e =
     (λ u.
     let q : genericBack header rest ≡ r .bytes = bytes-are (rw (t, u) at e) in
     rw (← q) (generic-room header rest h))
-    (λ u. seven-room k (readFrame (callLen k) header (unpack rest)) r (λ d. frame-room (callLen k) header (unpack rest) d (call-low k) (omega (arith, length-unpack rest))) (rw (t, u) at e)))
+    (λ u. seven-room k (readFrame mended (callLen k) header (unpack rest)) r (λ d. frame-room mended (callLen k) header (unpack rest) d (call-low k) (omega (arith, length-unpack rest))) (rw (t, u) at e)))
   where
     bytes-are : answer (record { command = Generic; bytes = genericBack header rest }) ≡ answer r → genericBack header rest ≡ r .bytes
     bytes-are q = cc
 
-some-room : (m : List ℕ) (r : Decoded) → length m ≤ 5000 → decodeSome m ≡ answer r → length (r .bytes) ≤ mostDecoded
+some-room : (mended : Bool) (m : List ℕ) (r : Decoded) → length m ≤ 5000 → decodeSome mended m ≡ answer r → length (r .bytes) ≤ mostDecoded
 unfolding decodeSome
-some-room [] r h e = absurd (answer-not (sym e))
-some-room (header ∷ rest) r h e = message-room header rest r (omega arith) e
+some-room mended [] r h e = absurd (answer-not (sym e))
+some-room mended (header ∷ rest) r h e = message-room mended header rest r (omega arith) e
 
 -- a message that is decoded, whatever it is, has at most so many bytes then
-pub decoded-fits : (m : List ℕ) (r : Decoded) → decodeOf m ≡ answer r → length (r .bytes) ≤ mostDecoded
+pub decoded-fits : (mended : Bool) (m : List ℕ) (r : Decoded) → decodeOf mended m ≡ answer r → length (r .bytes) ≤ mostDecoded
 unfolding decodeOf pick
-decoded-fits m r e =
+decoded-fits mended m r e =
     by-test (ltb 5000 (length m))
     (λ t. absurd (answer-not (sym (rw t at e))))
-    (λ t. some-room m r (ltb-false 5000 (length m) t) (rw t at e))
+    (λ t. some-room mended m r (ltb-false 5000 (length m) t) (rw t at e))

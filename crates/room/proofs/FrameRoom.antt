@@ -23,16 +23,16 @@ use Rattle.room.proofs.HeadRoom.{head-room}
 
 -- ---- the body
 
-info-room : (l typ : ℕ) (all b : List Bool) (i : List ℕ) {P : Type 0} → readInfo l typ all b ≡ some i → (Short b i → P) → (typ ≡ ThirdParty → Passed b i → P) → P
+info-room : (mended : Bool) (l typ : ℕ) (all b : List Bool) (i : List ℕ) {P : Type 0} → readInfo mended l typ all b ≡ some i → (Short b i → P) → (typ ≡ ThirdParty → Passed b i → P) → P
 unfolding readInfo bytesIn pick
-info-room l typ all b i e f g =
+info-room mended l typ all b i e f g =
     by-test (eqb typ Text)
     (λ t. let h = text7-room all (length all - length b) i (rw t at e) in f (omega arith))
     (λ t. by-test (eqb typ Binary)
     (λ u. f (rw (← Option·some-injective (bytesIn b) i (rw (t, u) at e)) (omega (arith, length-packN (length b / 8) b))))
     (λ u. by-test (eqb typ ThirdParty)
-    (λ v. g (eqb-true typ ThirdParty v) (third-room l b i (rw (t, u, v) at e)))
-    (λ v. f (body-room typ l b i (rw (t, u, v) at e)))))
+    (λ v. g (eqb-true typ ThirdParty v) (third-room mended l b i (rw (t, u, v) at e)))
+    (λ v. f (body-room mended typ l b i (rw (t, u, v) at e)))))
 
 -- ---- the frame
 
@@ -56,20 +56,20 @@ third-sum n k b e bits letters few long h three each within s =
     let q = (e - (bits + 8)) / 7 in
     by-le n 6 (λ m. omega arith) (λ m. let most : q ≤ 5705 = omega arith in omega arith)
 
-pub frame-room : (l header : ℕ) (b : List Bool) (d : List ℕ) → l ≤ 7 → length b ≤ 39992 → readFrame l header b ≡ some d → length d ≤ mostDecoded
+pub frame-room : (mended : Bool) (l header : ℕ) (b : List Bool) (d : List ℕ) → l ≤ 7 → length b ≤ 39992 → readFrame mended l header b ≡ some d → length d ≤ mostDecoded
 unfolding readFrame
-frame-room l header b d low long e =
-    from-some (readHead l (digiCount header) b) _ d e
-    (λ r er f. from-some (readInfo l (r .0 .typ) b (r .1)) _ d f
+frame-room mended l header b d low long e =
+    from-some (readHead mended l (digiCount header) b) _ d e
+    (λ r er f. from-some (readInfo mended l (r .0 .typ) b (r .1)) _ d f
     (λ i ei g.
     let n = digiCount header in
     let few = few-digis header in
-    let h = head-room l n b r few er in
+    let h = head-room mended l n b r few er in
     let calls = r .0 .dest ∷ r .0 .src ∷ r .0 .digis in
     let heard = false ∷ false ∷ r .0 .heard in
     let ui : List ℕ = pick (odd (header / 64)) (0x03 ∷ 0xF0 ∷ []) [] in
     let most : (n + 2) * 8 + 2 + length i ≤ mostDecoded =
-    info-room l (r .0 .typ) b (r .1) i ei
+    info-room mended l (r .0 .typ) b (r .1) i ei
     (λ s. short-sum n (length i) (length b) (length (r .1)) few long (h .head) s)
     (λ t s. third-sum n (length i) (length b) (length (r .1)) (s .bits) (s .letters) few long (h .third-head t) (s .three) (s .each) (s .within) (s .size)) in
     rw (← Option·some-injective (addresses l calls heard ++ (ui ++ i)) d g)

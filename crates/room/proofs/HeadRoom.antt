@@ -26,35 +26,35 @@ use Rattle.room.proofs.TokenRoom.{let-through, take-left, token-room}
 abbrev Named : ℕ → List Bool → List (List ℕ) × List Bool → Type 0
 Named n b v = (length (v .0) ≡ n) × (n + 2 * length (v .1) ≤ 2 * length b)
 
-module _ (l : ℕ) where
-  tokens-room : (n : ℕ) (b : List Bool) (v : List (List ℕ) × List Bool) → readTokens l n b ≡ some v → n + length (v .1) ≤ length b
+module _ (mended : Bool) (l : ℕ) where
+  tokens-room : (n : ℕ) (b : List Bool) (v : List (List ℕ) × List Bool) → readTokens mended l n b ≡ some v → n + length (v .1) ≤ length b
   unfolding readTokens
   tokens-room zero b v e = rw (← Option·some-injective ([], b) v e) (omega arith)
   tokens-room (suc n) b v e =
-      from-some (readToken l b) _ v e
-      (λ c ec f. from-some (readTokens l n (c .1)) _ v f
+      from-some (readToken mended l b) _ v e
+      (λ c ec f. from-some (readTokens mended l n (c .1)) _ v f
       (λ w ew g.
-      let t = token-room l b c ec in
+      let t = token-room mended l b c ec in
       let r = tokens-room n (c .1) w ew in
       rw (← Option·some-injective (c .0 ∷ w .0, w .1) v g) (omega arith)))
 
-  tokens-named : (n : ℕ) (b : List Bool) (v : List (List ℕ) × List Bool) → readTokens l n b ≡ some v → Named n b v
-  tokens-named n b v e = (tokens-count l n b v e, omega (arith, tokens-room n b v e))
+  tokens-named : (n : ℕ) (b : List Bool) (v : List (List ℕ) × List Bool) → readTokens mended l n b ≡ some v → Named n b v
+  tokens-named n b v e = (tokens-count mended l n b v e, omega (arith, tokens-room n b v e))
 
-  alias-room : (n : ℕ) (b : List Bool) (v : List (List ℕ) × List Bool) → readAlias l n b ≡ some v → (length (v .0) ≡ n) × (3 + length (v .1) ≤ length b)
+  alias-room : (n : ℕ) (b : List Bool) (v : List (List ℕ) × List Bool) → readAlias n b ≡ some v → (length (v .0) ≡ n) × (3 + length (v .1) ≤ length b)
   unfolding readAlias
   alias-room n b v e =
       from-some (takeBits 3 b) _ v e
       (λ k ek f. from-some (nameAt (k .0) aliases) _ v f
       (λ a ea g. rw (← Option·some-injective (aliasCalls a 1 n, k .1) v g) (alias-count a 1 n, omega (arith, take-left 3 b k ek .0))))
 
-  aliased-room : (n : ℕ) (b : List Bool) (v : List (List ℕ) × List Bool) → n ≤ 8 → readAliased l n b ≡ some v → Named n b v
+  aliased-room : (n : ℕ) (b : List Bool) (v : List (List ℕ) × List Bool) → n ≤ 8 → readAliased mended l n b ≡ some v → Named n b v
   unfolding readAliased pick
   aliased-room n [] v h e = absurd (Option·none-ne-some v e)
   aliased-room n (true ∷ b) v h e = let a = alias-room n b v e in (a .0, omega (arith, a .1))
   aliased-room n (false ∷ b) v h e = let t = tokens-named n b v e in (t .0, omega (arith, t .1))
 
-  digis-room : (ap : Bool) (n : ℕ) (b : List Bool) (v : List (List ℕ) × List Bool) → n ≤ 8 → readDigis l ap n b ≡ some v → Named n b v
+  digis-room : (ap : Bool) (n : ℕ) (b : List Bool) (v : List (List ℕ) × List Bool) → n ≤ 8 → readDigis mended l ap n b ≡ some v → Named n b v
   unfolding readDigis pick
   digis-room ap zero b v h e = rw (← Option·some-injective ([], b) v e) (refl, omega arith)
   digis-room true (suc n) b v h e = aliased-room (suc n) b v h e
@@ -77,20 +77,20 @@ pub record Headed (n : ℕ) (b : List Bool) (p : Head × List Bool) : Type 0 whe
   pub head : 3 * n + 26 + 2 * length (p .1) ≤ 2 * length b
   pub third-head : p .0 .typ ≡ ThirdParty → 3 * n + 30 + 2 * length (p .1) ≤ 2 * length b
 
-pub head-room : (l n : ℕ) (b : List Bool) (p : Head × List Bool) → n ≤ 8 → readHead l n b ≡ some p → Headed n b p
+pub head-room : (mended : Bool) (l n : ℕ) (b : List Bool) (p : Head × List Bool) → n ≤ 8 → readHead mended l n b ≡ some p → Headed n b p
 unfolding readHead
-head-room l n b p few e =
+head-room mended l n b p few e =
     from-some (splitOff n b) _ p e
-    (λ h eh f. from-some (readToken l (h .1)) _ p f
-    (λ d ed g. from-some (readToken l (d .1)) _ p g
-    (λ s es j. from-some (readDigis l (starts (ascii "AP") (d .0)) n (s .1)) _ p j
+    (λ h eh f. from-some (readToken mended l (h .1)) _ p f
+    (λ d ed g. from-some (readToken mended l (d .1)) _ p g
+    (λ s es j. from-some (readDigis mended l (starts (ascii "AP") (d .0)) n (s .1)) _ p j
     (λ v ev k. from-some (takeBits (typeWidth (starts (ascii "AP") (d .0))) (v .1)) _ p k
     (λ t et m.
     let w = split-is n b h eh in
     let left : length (h .1) ≡ length (drop n b) = ap length (w .2) in
-    let x = token-room l (h .1) d ed in
-    let y = token-room l (d .1) s es in
-    let z = digis-room l (starts (ascii "AP") (d .0)) n (s .1) v few ev in
+    let x = token-room mended l (h .1) d ed in
+    let y = token-room mended l (d .1) s es in
+    let z = digis-room mended l (starts (ascii "AP") (d .0)) n (s .1) v few ev in
     let u = type-room (starts (ascii "AP") (d .0)) (v .1) t et in
     rw (← let-through (known (t .0)) (record { dest = d .0; src = s .0; digis = v .0; heard = h .0; typ = t .0 }, t .1) p m .1)
     (record {

@@ -172,21 +172,21 @@ seven-own : (command : ℕ) (o : Option (List ℕ)) → NotShort (orSeven comman
 seven-own command none = no 7 refl
 seven-own command (some d) = yes (record { command = command; bytes = d })
 
-message-frame-own : (header : ℕ) (rest : List ℕ) → NotShort (decodeMessage header rest)
+message-frame-own : (mended : Bool) (header : ℕ) (rest : List ℕ) → NotShort (decodeMessage mended header rest)
 unfolding decodeMessage
-message-frame-own header rest =
+message-frame-own mended header rest =
     let k = header / 16 % 4 in
     either (eqb k 3) (no 7 refl)
-    (either (eqb k 2) (yes _) (seven-own k (readFrame (callLen k) header (unpack rest))))
+    (either (eqb k 2) (yes _) (seven-own k (readFrame mended (callLen k) header (unpack rest))))
 
-some-own : (m : List ℕ) → NotShort (decodeSome m)
+some-own : (mended : Bool) (m : List ℕ) → NotShort (decodeSome mended m)
 unfolding decodeSome
-some-own [] = no 7 refl
-some-own (header ∷ rest) = message-frame-own header rest
+some-own mended [] = no 7 refl
+some-own mended (header ∷ rest) = message-frame-own mended header rest
 
-pub decode-own : (m : List ℕ) → NotShort (decodeOf m)
+pub decode-own : (mended : Bool) (m : List ℕ) → NotShort (decodeOf mended m)
 unfolding decodeOf
-decode-own m = either (ltb 5000 (length m)) (no 2 refl) (some-own m)
+decode-own mended m = either (ltb 5000 (length m)) (no 2 refl) (some-own mended m)
 
 -- ---- the sender and its frames
 

@@ -72,23 +72,23 @@ text-size (suc k) =
 
 -- ---- the calls
 
-named-reads : (l : ℕ) (r : List Bool) → readToken l (bitsOf 6 47 ++ r) ≡ some (ascii "APBPQ1", r)
+named-reads : (l : ℕ) (r : List Bool) → readToken false l (bitsOf 6 47 ++ r) ≡ some (ascii "APBPQ1", r)
 unfolding cases.nameAt
 named-reads l r =
-    token-form l (bitsOf 6 47 ++ r) 47 r (take-bits 6 47 r) ∙ rw (form-ap-name 47 (omega arith) (omega arith), read-name l r (ascii "APBPQ1"))
+    token-form false l (bitsOf 6 47 ++ r) 47 r (take-bits 6 47 r) ∙ rw (form-ap-name 47 (omega arith) (omega arith), read-name false l r (ascii "APBPQ1"))
 
--- WIDE2-3 is read so
-wide-number : (r : List Bool) → wideNumber 2 (bitsOf 2 3 ++ r) ≡ some (11, r)
+-- WIDE2-3 is read so, under the original reading
+wide-number : (r : List Bool) → wideNumber false 2 (bitsOf 2 3 ++ r) ≡ some (11, r)
 unfolding wideNumber bitsOf odd num valOf valFrom stops nextVal pick
 wide-number r = text-yes 2 (true ∷ true ∷ r) (omega arith)
 
-wide-reads : (l : ℕ) (r : List Bool) → readToken l (bitsOf 6 37 ++ (bitsOf 1 1 ++ (bitsOf 2 3 ++ r))) ≡ some (ascii "WIDE2-11", r)
+wide-reads : (l : ℕ) (r : List Bool) → readToken false l (bitsOf 6 37 ++ (bitsOf 1 1 ++ (bitsOf 2 3 ++ r))) ≡ some (ascii "WIDE2-11", r)
 unfolding cases.nameAt after suffix decimal twoDigits pick
 wide-reads l r =
     let s = bitsOf 2 3 ++ r in
     let b = bitsOf 1 1 ++ s in
-    token-form l (bitsOf 6 37 ++ b) 37 b (take-bits 6 37 b)
-    ∙ rw (form-wide 37 refl, read-pair l b (ascii "WIDE") 2, pair-whole 2 b 1 s (take-bits 1 1 s) 11 r (wide-number r))
+    token-form false l (bitsOf 6 37 ++ b) 37 b (take-bits 6 37 b)
+    ∙ rw (form-wide 37 refl, read-pair false l b (ascii "WIDE") 2, pair-whole false 2 b 1 s (take-bits 1 1 s) 11 r (wide-number r))
 
 -- ---- the body
 
@@ -98,14 +98,14 @@ call = ascii "APBPQ1"
 abbrev theirs : List ℕ → List ℕ
 theirs t = 0x3A ∷ filled 9 call ++ 0x3A ∷ t
 
-message-reads : (b : List Bool) → readBody Message 7 (bitsOf 6 47 ++ b) ≡ some (theirs (readText false b))
+message-reads : (b : List Bool) → readBody false Message 7 (bitsOf 6 47 ++ b) ≡ some (theirs (readText false b))
 unfolding readBody readMessage pick
 message-reads b = rw (named-reads 7 b)
 
 abbrev body : List Bool → List Bool
 body b = bitsOf 6 37 ++ (bitsOf 1 1 ++ (bitsOf 2 3 ++ (bitsOf 6 47 ++ (bitsOf 6 47 ++ (bitsOf 2 2 ++ (bitsOf 6 47 ++ b))))))
 
-third-reads : (b : List Bool) → readThird 7 (body b) ≡ some (partyOf (ascii "WIDE2-11") call call (theirs (readText false b)))
+third-reads : (b : List Bool) → readThird false 7 (body b) ≡ some (partyOf (ascii "WIDE2-11") call call (theirs (readText false b)))
 unfolding readThird pick
 third-reads b =
     let x = bitsOf 6 47 ++ b in
@@ -117,7 +117,7 @@ third-reads b =
 abbrev digis : List (List ℕ)
 digis = aliasCalls (ascii "WIDE") 1 8
 
-digis-reads : (b : List Bool) → readDigis 7 true 8 (true ∷ (bitsOf 3 1 ++ b)) ≡ some (digis, b)
+digis-reads : (b : List Bool) → readDigis false 7 true 8 (true ∷ (bitsOf 3 1 ++ b)) ≡ some (digis, b)
 unfolding readDigis readAliased readAlias nameAt aliases pick
 digis-reads b = rw (take-bits 3 1 b)
 
@@ -127,7 +127,7 @@ head = record { dest = call; src = call; digis = digis; heard = replicate 8 fals
 abbrev frame : List Bool → List Bool
 frame b = replicate 8 false ++ (bitsOf 6 47 ++ (bitsOf 6 47 ++ (true ∷ (bitsOf 3 1 ++ (bitsOf 3 6 ++ b)))))
 
-head-reads : (b : List Bool) → readHead 7 8 (frame b) ≡ some (head, b)
+head-reads : (b : List Bool) → readHead false 7 8 (frame b) ≡ some (head, b)
 unfolding readHead starts pick
 head-reads b =
     let x = bitsOf 3 6 ++ b in
@@ -142,7 +142,7 @@ party t = partyOf (ascii "WIDE2-11") call call (theirs t)
 abbrev fields : List ℕ
 fields = addresses 7 (call ∷ call ∷ digis) (false ∷ false ∷ replicate 8 false)
 
-frame-reads : (b : List Bool) → readFrame 7 0x5F (frame (body b)) ≡ some (fields ++ ((0x03 ∷ 0xF0 ∷ []) ++ party (readText false b)))
+frame-reads : (b : List Bool) → readFrame false 7 0x5F (frame (body b)) ≡ some (fields ++ ((0x03 ∷ 0xF0 ∷ []) ++ party (readText false b)))
 unfolding readFrame readInfo odd pick
 frame-reads b = rw (head-reads (body b), third-reads b)
 
@@ -171,7 +171,7 @@ pub record Reached {A : Type 0} (bytes : A → List ℕ) (o : Outcome A) (most :
 pub longest : List ℕ
 longest = 0x5F ∷ pack (frame (body (many 5705)))
 
-pub decoded-reached : Reached (λ r. r .bytes) (decodeOf longest) mostDecoded
+pub decoded-reached : Reached (λ r. r .bytes) (decodeOf false longest) mostDecoded
 unfolding longest decodeOf decodeSome decodeMessage pick
 decoded-reached =
     let t = readText false (many 5705) in

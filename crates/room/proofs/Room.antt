@@ -1,6 +1,7 @@
 -- An output with the most bytes is never refused as too short, neither by `encode` nor by `decode`.
 -- Assumes nothing.
 use mathlib.Core.Path.{_≡_}
+use mathlib.Core.Bool.{Bool}
 use mathlib.Core.List.{List}
 use Prim.Native.Nat.{ℕ, _≤_}
 use native.Mathlib.Omega.{arith}
@@ -34,6 +35,6 @@ encode-answers command d out t r e h s =
     never-short (λ c. c .bytes) (λ c. c .typ) (codeOf command d) mostMessage (code-own command d) (coded-fits command d) out t h (rw s at e)
 
 -- `decode`, in the same way
-pub decode-answers : (m out t : List ℕ) (r : decoded.Decoded) → (decodedOf r, t) ≡ decodeInto (decodeOf m) out → mostDecoded ≤ length out → NotShort (decodedOf r)
-decode-answers m out t r e h s =
-    never-short (λ d. d .bytes) (λ d. d .command) (decodeOf m) mostDecoded (decode-own m) (decoded-fits m) out t h (rw s at e)
+pub decode-answers : (mended : Bool) (m out t : List ℕ) (r : decoded.Decoded) → (decodedOf r, t) ≡ decodeInto (decodeOf mended m) out → mostDecoded ≤ length out → NotShort (decodedOf r)
+decode-answers mended m out t r e h s =
+    never-short (λ d. d .bytes) (λ d. d .command) (decodeOf mended m) mostDecoded (decode-own mended m) (decoded-fits mended m) out t h (rw s at e)

@@ -36,9 +36,10 @@ take-left n b p e =
     let k = let-through (leb n (length b)) (valueOf (take n b), drop n b) p e in
     rw (← k .1) (omega (arith, leb-true n (length b) (k .0), length-drop n b), value-take-lt b n)
 
-text-left : (n : ℕ) (b : List Bool) (p : ℕ × List Bool) → wideNumber n b ≡ some p → length b ≡ n + length (p .1)
-unfolding wideNumber takeText
-text-left n b p e =
+text-left : (mended : Bool) (n : ℕ) (b : List Bool) (p : ℕ × List Bool) → wideNumber mended n b ≡ some p → length b ≡ n + length (p .1)
+unfolding wideNumber takeText pick
+text-left true n b p e = take-left n b p e .0
+text-left false n b p e =
     let k = let-through (leb n (length b)) (valOf (map letter (take n b)), drop n b) p e in
     rw (← k .1) (omega (arith, leb-true n (length b) (k .0), length-drop n b))
 
@@ -107,14 +108,14 @@ spelled-room n b p e =
     rw (← Option·some-injective (t .0 ++ suffix (v .0), v .1) p g)
     (omega (arith, letters-room false n b t et, take-left 4 (t .1) v ev .0, suffix-size (v .0), length-append (t .0) (suffix (v .0))))))
 
-pair-room : (w : ℕ) (b : List Bool) (p : List ℕ × List Bool) → readPair w b ≡ some p → (length (p .0) ≤ 4) × (length b ≡ 1 + w + length (p .1))
+pair-room : (mended : Bool) (w : ℕ) (b : List Bool) (p : List ℕ × List Bool) → readPair mended w b ≡ some p → (length (p .0) ≤ 4) × (length b ≡ 1 + w + length (p .1))
 unfolding readPair
-pair-room w b p e =
+pair-room mended w b p e =
     from-some (takeBits 1 b) _ p e
-    (λ d ed f. from-some (wideNumber w (d .1)) _ p f
+    (λ d ed f. from-some (wideNumber mended w (d .1)) _ p f
     (λ v ev g.
     rw (← Option·some-injective ((49 + d .0) ∷ suffix (v .0), v .1) p g)
-    (omega (arith, suffix-size (v .0)), omega (arith, take-left 1 b d ed .0, text-left w (d .1) v ev))))
+    (omega (arith, suffix-size (v .0)), omega (arith, take-left 1 b d ed .0, text-left mended w (d .1) v ev))))
 
 number-room : (lo w : ℕ) (b : List Bool) (p : List ℕ × List Bool) → readNumber lo w b ≡ some p → (length (p .0) ≡ 2) × (length b ≡ w + length (p .1))
 unfolding readNumber twoDigits
@@ -122,33 +123,33 @@ number-room lo w b p e =
     from-some (takeBits w b) _ p e
     (λ v ev f. rw (← Option·some-injective (twoDigits (v .0 + lo), v .1) p f) (refl, take-left w b v ev .0))
 
-form-room : (l : ℕ) (f : Form) (b : List Bool) (p : List ℕ × List Bool) → short f ≡ true → readForm l f b ≡ some p → Took 0 b p
+form-room : (mended : Bool) (l : ℕ) (f : Form) (b : List Bool) (p : List ℕ × List Bool) → short f ≡ true → readForm mended l f b ≡ some p → Took 0 b p
 unfolding short readForm
-form-room l (spelled x) b p s e =
+form-room mended l (spelled x) b p s e =
     after-from (x ∷ []) (readSpelled (l - 1) b) p e
     (λ q eq m k. let h = spelled-room (l - 1) b q eq in record { left = omega arith; letters = omega arith; long = omega arith })
-form-room l (paired n w) b p s e =
+form-room mended l (paired n w) b p s e =
     let few = leb-true (length n) 4 (and-left (leb (length n) 4) (leb (length n) (2 + w)) s) in
     let by = leb-true (length n) (2 + w) (and-right (leb (length n) 4) (leb (length n) (2 + w)) s) in
-    after-from n (readPair w b) p e
-    (λ q eq m k. let h = pair-room w b q eq in record { left = omega arith; letters = omega arith; long = omega arith })
-form-room l (named n) b p s e =
+    after-from n (readPair mended w b) p e
+    (λ q eq m k. let h = pair-room mended w b q eq in record { left = omega arith; letters = omega arith; long = omega arith })
+form-room mended l (named n) b p s e =
     let few = leb-true (length n) 6 s in
     rw (← Option·some-injective (n, b) p e) (record { left = omega arith; letters = omega arith; long = omega arith })
-form-room l (counted n lo w) b p s e =
+form-room mended l (counted n lo w) b p s e =
     let few = leb-true (length n) 4 s in
     after-from n (readNumber lo w b) p e
     (λ q eq m k. let h = number-room lo w b q eq in record { left = omega arith; letters = omega arith; long = omega arith })
-form-room l begun b p s e =
+form-room mended l begun b p s e =
     after-from (ascii "AP") (readLetters true (l - 2) b) p e
     (λ q eq m k. let h = letters-room true (l - 2) b q eq in record { left = omega arith; letters = omega arith; long = omega arith })
-form-room l noToken b p s e = absurd (Option·none-ne-some p e)
+form-room mended l noToken b p s e = absurd (Option·none-ne-some p e)
 
-pub token-room : (l : ℕ) (b : List Bool) (p : List ℕ × List Bool) → readToken l b ≡ some p → Took 6 b p
+pub token-room : (mended : Bool) (l : ℕ) (b : List Bool) (p : List ℕ × List Bool) → readToken mended l b ≡ some p → Took 6 b p
 unfolding readToken
-token-room l b p e =
+token-room mended l b p e =
     from-some (takeBits 6 b) _ p e
     (λ i ei f.
     let t = take-left 6 b i ei in
-    let h = form-room l (formOf (i .0)) (i .1) p (at-each (λ k. short (formOf k)) 64 all-short (i .0) (t .1)) f in
+    let h = form-room mended l (formOf (i .0)) (i .1) p (at-each (λ k. short (formOf k)) 64 all-short (i .0) (t .1)) f in
     record { left = omega (arith, t .0, h .left); letters = omega (arith, t .0, h .letters); long = omega (arith, t .0, h .long) })

@@ -227,6 +227,6 @@ module _ (field mask number command : ℕ) (d : List ℕ) (known : command ≤ 2
       known
       ∙ spelled-data (behind 32 (x ∷ s)) (r .1) (r .2)
 
-  -- what `receive` writes behind `done ` (`done-line` in receive/proofs/LineLaws) is the command and the bytes again
+  -- what `receive` writes after `done ` (`done-line` in receive_lines/proofs/LineLaws) is the command and the bytes again
   pub line-back : bits.Bytes d → length d ≤ lineRoom → lineText field mask number (withoutCr (spelledOf command d)) ≡ dataText field mask command d
   line-back h few = line-data (withoutCr (spelledOf command d)) (spelled-back command d known h few)

@@ -1,5 +1,6 @@
 // The library for C and Rust programs: one thin function for each public call. A slice crosses as a pointer and a length; structs cross by value.
 ghost use mathlib.Core.Path.{_≡_};
+ghost use mathlib.Core.Bool.{true, false};
 ghost use mathlib.Core.List.{List};
 ghost use Prim.Native.Nat.{ℕ};
 ghost use Rattle.crc.specs.Crc.{crcOf};
@@ -10,8 +11,8 @@ ghost use Rattle.receiver.specs.Join.{heardOf, resetOf, joinOf};
 ghost use Rattle.receiver.specs.New.{newOf};
 ghost use Rattle.receiver.specs.Push.{pushOf};
 ghost use Rattle.kiss.specs.Codec.{codeOf, summaryOf, decodeOf};
-ghost use Rattle.kiss.specs.Told.{codeInto, decodeInto};
-ghost use Rattle.xara.specs.Told.{controlOf, receiverOf, toReceiver, toAnswer, toAnswerWith, toFresh, toPushed, toPushedWith, toEncodedWith, toSummary, toDecodedWith};
+ghost use Rattle.kiss.specs.Told.{codeInto, decodedOf, decodeInto};
+ghost use Rattle.xara.specs.Told.{controlOf, receiverOf, toReceiver, toAnswer, toAnswerWith, toFresh, toPushed, toPushedWith, toEncodedWith, toSummary, toDecoded, toDecodedWith};
 ghost use Rattle.laws.specs.Bits.{num};
 use ax25_address::classify::code;
 use frame::Control;
@@ -196,6 +197,26 @@ fn heard(came: XaraReceiver, pushed: Pushed) -> XaraPushed
     }
 }
 
+// What a decoding answers.
+fn given(decoded: Decoded) -> XaraDecoded
+    ensures { λ r. ⌜ r ≡ toDecoded (decodedOf decoded) ⌝ }
+{
+    match decoded {
+        Decoded::Refused(refusal) => XaraDecoded {
+            ok: false,
+            refusal,
+            command: 0,
+            length: 0,
+        },
+        Decoded::Bytes(command, length) => XaraDecoded {
+            ok: true,
+            refusal: 0,
+            command,
+            length,
+        },
+    }
+}
+
 // The CRC-16/GENIBUS of any bytes.
 #[no_mangle]
 pub extern "C" fn xara_crc16_genibus(data: &[u8]) -> u16
@@ -354,23 +375,18 @@ pub extern "C" fn xara_summary(command: u8, data: &[u8]) -> XaraSummary
     }
 }
 
-// The data that a message was coded from.
+// The data that a message was coded from, in the original reading.
 #[no_mangle]
 pub extern "C" fn xara_decode(message: &[u8], out: &mut [u8]) -> XaraDecoded
-    ensures { λ r. ⌜ (r, now (out .exit)) ≡ toDecodedWith (decodeInto (decodeOf (now (message .entry))) (now (out .entry))) ⌝ }
+    ensures { λ r. ⌜ (r, now (out .exit)) ≡ toDecodedWith (decodeInto (decodeOf false (now (message .entry))) (now (out .entry))) ⌝ }
 {
-    match kiss::decode(message, out) {
-        Decoded::Refused(refusal) => XaraDecoded {
-            ok: false,
-            refusal,
-            command: 0,
-            length: 0,
-        },
-        Decoded::Bytes(command, length) => XaraDecoded {
-            ok: true,
-            refusal: 0,
-            command,
-            length,
-        },
-    }
+    given(kiss::decode(message, false, out))
+}
+
+// The same in the mended reading: the last two bits of a WIDE token are a binary number.
+#[no_mangle]
+pub extern "C" fn xara_decode_mended(message: &[u8], out: &mut [u8]) -> XaraDecoded
+    ensures { λ r. ⌜ (r, now (out .exit)) ≡ toDecodedWith (decodeInto (decodeOf true (now (message .entry))) (now (out .entry))) ⌝ }
+{
+    given(kiss::decode(message, true, out))
 }

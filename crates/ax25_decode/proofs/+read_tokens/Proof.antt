@@ -44,7 +44,7 @@ claims t = (
 read-tokens-returns : (t : ℕ) → read-tokens-lts.Need-returns (claims t) (read-tokens-at t) read-tokens.Post
 read-tokens-returns t c =
     let a = c .before .before .before .args in
-    tokens-end (a .l) (a .n) (a .k) (unpack (now (a .s))) (a .at) (now (a .out)) (a .to) (c .if1 .taken)
+    tokens-end (a .mended) (a .l) (a .n) (a .k) (unpack (now (a .s))) (a .at) (now (a .out)) (a .to) (c .if1 .taken)
 
 read-tokens-bit-requires : (t : ℕ) → read-tokens-lts.Need-bit-requires (claims t) (read-tokens-at t) read-tokens.Post
 read-tokens-bit-requires t c κs =
@@ -69,8 +69,8 @@ read-tokens-returns-2 : (t : ℕ) → read-tokens-lts.Need-returns-2 (claims t) 
 read-tokens-returns-2 t c =
     let a = c .before .before .before .before .before .before .before .before .before .before .args in
     let b = unpack (now (a .s)) in
-    tokens-none (a .l) (a .n) (a .k) b (drop (a .at) b) (c .before .before .before .before .before .before .before .if1 .left)
-    (untaken (fieldOf (a .l) (c .before .before .before .before .before .before .bit .result) (eqb (a .n) 1)) b (readToken (a .l) (drop (a .at) b)) _ (a .to) _ _ (c .before .before .before .before .read-address .ensures) (c .enum-told .given .1))
+    tokens-none (a .mended) (a .l) (a .n) (a .k) b (drop (a .at) b) (c .before .before .before .before .before .before .before .if1 .left)
+    (untaken (fieldOf (a .l) (c .before .before .before .before .before .before .bit .result) (eqb (a .n) 1)) b (readToken (a .mended) (a .l) (drop (a .at) b)) _ (a .to) _ _ (c .before .before .before .before .read-address .ensures) (c .enum-told .given .1))
 
 read-tokens-sub-read-tokens : (t : ℕ) → read-tokens-lts.Need-sub-read-tokens (claims t) (read-tokens-at t) read-tokens.Post
 read-tokens-sub-read-tokens t c = omega (arith, c .before .before .before .before .before .before .before .before .if1 .left)
@@ -84,7 +84,7 @@ read-tokens-read-tokens-requires t c κs =
     let pre = start .pre .1 in
     let a = start .args in
     let b = unpack (now (a .s)) in
-    let t = took (fieldOf (a .l) (c .before .before .before .before .before .before .before .before .bit .result) (eqb (a .n) 1)) b (readToken (a .l) (drop (a .at) b)) _ (a .to) _ _ (c .before .before .before .before .before .before .read-address .ensures) _ _ (c .before .before .p .given .1) in
+    let t = took (fieldOf (a .l) (c .before .before .before .before .before .before .before .before .bit .result) (eqb (a .n) 1)) b (readToken (a .mended) (a .l) (drop (a .at) b)) _ (a .to) _ _ (c .before .before .before .before .before .before .read-address .ensures) _ _ (c .before .before .p .given .1) in
     let more = c .before .before .before .before .before .before .before .before .before .if1 .left in
     (omega (arith, start .pre .0, more), (pre .0, pre .1, pre .2, omega (arith, pre .3, more), omega (arith, pre .4, more, pre .2, place-next (a .l) (c .before .before .before .before .before .before .before .before .bit .result) (eqb (a .n) 1) t)))
 
@@ -96,9 +96,9 @@ read-tokens-returns-3 t c =
     let a = c .before .before .before .before .before .before .before .before .before .before .before .before .before .before .before .args in
     let b = unpack (now (a .s)) in
     let h = c .before .before .before .before .before .before .before .before .before .before .before .bit in
-    let t = took (fieldOf (a .l) (h .result) (eqb (a .n) 1)) b (readToken (a .l) (drop (a .at) b)) _ (a .to) _ _ (c .before .before .before .before .before .before .before .before .before .read-address .ensures) _ _ (c .before .before .before .before .before .p .given .1) in
+    let t = took (fieldOf (a .l) (h .result) (eqb (a .n) 1)) b (readToken (a .mended) (a .l) (drop (a .at) b)) _ (a .to) _ _ (c .before .before .before .before .before .before .before .before .before .read-address .ensures) _ _ (c .before .before .before .before .before .p .given .1) in
     let rest = c .before .before .read-tokens in
-    tokens-more (a .l) (a .n) (a .k) b (drop (a .at) b) (c .before .before .before .before .before .before .before .before .before .before .before .before .if1 .left) (h .result) (h .ensures) _ _ (a .to) _ _ t (rest .last .1 .1 .1 .1 .1 .0) (rest .result) (rest .ensures)
+    tokens-more (a .mended) (a .l) (a .n) (a .k) b (drop (a .at) b) (c .before .before .before .before .before .before .before .before .before .before .before .before .if1 .left) (h .result) (h .ensures) _ _ (a .to) _ _ t (rest .last .1 .1 .1 .1 .1 .0) (rest .result) (rest .ensures)
 
 pub +read-tokens-spec : {M : Type 1} → statement M
 +read-tokens-spec = close μ-read-tokens λ t. read-tokens-lts.spec (claims t)

@@ -32,7 +32,7 @@ returns c =
     let b = unpack (now (a .s)) in
     let n = c .before .before .before .before .before .before .digi-count in
     let h = c .before .before .before .before .read-head in
-    rw (frame-none (a .l) (a .header) (n .result) b (n .ensures .0) (unheaded (a .l) b (readHead (a .l) (n .result) b) _ _ (h .result) (h .ensures) (c .enum-told .given .1))) refl
+    rw (frame-none (a .mended) (a .l) (a .header) (n .result) b (n .ensures .0) (unheaded (a .l) b (readHead (a .mended) (a .l) (n .result) b) _ _ (h .result) (h .ensures) (c .enum-told .given .1))) refl
 
 put-ui-requires : tie.Need-put-ui-requires
 put-ui-requires c κs =
@@ -41,8 +41,8 @@ put-ui-requires c κs =
     let b = unpack (now (a .s)) in
     let n = c .before .before .before .before .before .before .before .before .digi-count in
     let h = c .before .before .before .before .before .before .read-head in
-    let k = headed (a .l) b (readHead (a .l) (n .result) b) _ _ (h .result) (h .ensures) _ _ _ (c .before .before .p .given .1) in
-    omega (arith, head-place (a .l) (a .header) (n .result) b (n .ensures .0) _ _ _ _ _ k (start .pre .2))
+    let k = headed (a .l) b (readHead (a .mended) (a .l) (n .result) b) _ _ (h .result) (h .ensures) _ _ _ (c .before .before .p .given .1) in
+    omega (arith, head-place (a .mended) (a .l) (a .header) (n .result) b (n .ensures .0) _ _ _ _ _ k (start .pre .2))
 
 read-info-requires : tie.Need-read-info-requires
 read-info-requires c κs =
@@ -51,8 +51,8 @@ read-info-requires c κs =
     let b = unpack (now (a .s)) in
     let n = c .before .before .before .before .before .before .before .before .before .before .before .before .digi-count in
     let h = c .before .before .before .before .before .before .before .before .before .before .read-head in
-    let k = headed (a .l) b (readHead (a .l) (n .result) b) _ _ (h .result) (h .ensures) _ _ _ (c .before .before .before .before .before .before .p .given .1) in
-    let q = head-place (a .l) (a .header) (n .result) b (n .ensures .0) _ _ _ _ _ k (start .pre .2) in
+    let k = headed (a .l) b (readHead (a .mended) (a .l) (n .result) b) _ _ (h .result) (h .ensures) _ _ _ (c .before .before .before .before .before .before .p .given .1) in
+    let q = head-place (a .mended) (a .l) (a .header) (n .result) b (n .ensures .0) _ _ _ _ _ k (start .pre .2) in
     (start .pre .0, omega (arith, k .reaches, length-unpack (now (a .s))), start .pre .1, start .pre .2, omega (arith, q, c .before .before .before .put-ui .ensures .1))
 
 same-length-2 : tie.Need-same-length-2
@@ -64,9 +64,9 @@ returns-2 c =
     let b = unpack (now (a .s)) in
     let n = c .before .before .before .before .before .before .before .before .before .before .before .before .before .before .before .digi-count in
     let h = c .before .before .before .before .before .before .before .before .before .before .before .before .before .read-head in
-    let k = headed (a .l) b (readHead (a .l) (n .result) b) _ _ (h .result) (h .ensures) _ _ _ (c .before .before .before .before .before .before .before .before .before .p .given .1) in
+    let k = headed (a .l) b (readHead (a .mended) (a .l) (n .result) b) _ _ (h .result) (h .ensures) _ _ _ (c .before .before .before .before .before .before .before .before .before .p .given .1) in
     let r = c .before .before .read-info in
-    frame-some (a .l) (a .header) (n .result) b (n .ensures .0) _ _ _ _ _ k _ _ (c .before .before .before .before .before .before .put-ui .ensures .0) (r .last .1 .1 .1 .1 .0) (r .result) (r .ensures)
+    frame-some (a .mended) (a .l) (a .header) (n .result) b (n .ensures .0) _ _ _ _ _ k _ _ (c .before .before .before .before .before .before .put-ui .ensures .0) (r .last .1 .1 .1 .1 .0) (r .result) (r .ensures)
 
 pub decode-spec : {M : Type 1} → statement M
 decode-spec =

@@ -13,7 +13,7 @@ use Rattle.ax25_decode.proofs.read_digis.Tie as tie
 returns : tie.Need-returns
 returns c =
     let a = c .before .before .before .args in
-    digis-end (a .l) (a .ap) (a .n) (unpack (now (a .s))) (a .at) (now (a .out)) (a .to) (c .if1 .taken)
+    digis-end (a .mended) (a .l) (a .ap) (a .n) (unpack (now (a .s))) (a .at) (now (a .out)) (a .to) (c .if1 .taken)
 
 read-aliased-requires : tie.Need-read-aliased-requires
 read-aliased-requires c κs = search needs
@@ -26,7 +26,7 @@ returns-2 c =
     let a = c .before .before .before .before .before .before .before .before .args in
     let b = unpack (now (a .s)) in
     let r = c .before .before .read-aliased in
-    reads-as (digiBytes (a .l) b (a .n) 0) b (sym (digis-aliased (a .l) (a .ap) (a .n) (drop (a .at) b) (c .before .before .before .before .before .if1 .left) (c .before .before .before .before .if2 .taken))) (now (a .out)) (a .to) (r .last .1 .1 .1 .1 .0) (r .result) (r .ensures)
+    reads-as (digiBytes (a .l) b (a .n) 0) b (sym (digis-aliased (a .mended) (a .l) (a .ap) (a .n) (drop (a .at) b) (c .before .before .before .before .before .if1 .left) (c .before .before .before .before .if2 .taken))) (now (a .out)) (a .to) (r .last .1 .1 .1 .1 .0) (r .result) (r .ensures)
 
 read-tokens-requires : tie.Need-read-tokens-requires
 read-tokens-requires c κs = search needs
@@ -39,7 +39,7 @@ returns-3 c =
     let a = c .before .before .before .before .before .before .before .before .args in
     let b = unpack (now (a .s)) in
     let r = c .before .before .read-tokens in
-    reads-as (digiBytes (a .l) b (a .n) 0) b (sym (digis-tokens (a .l) (a .ap) (a .n) (drop (a .at) b) (c .before .before .before .before .before .if1 .left) (c .before .before .before .before .if2 .left))) (now (a .out)) (a .to) (r .last .1 .1 .1 .1 .1 .0) (r .result) (r .ensures)
+    reads-as (digiBytes (a .l) b (a .n) 0) b (sym (digis-tokens (a .mended) (a .l) (a .ap) (a .n) (drop (a .at) b) (c .before .before .before .before .before .if1 .left) (c .before .before .before .before .if2 .left))) (now (a .out)) (a .to) (r .last .1 .1 .1 .1 .1 .0) (r .result) (r .ensures)
 
 pub read-digis-spec : {M : Type 1} → statement M
 read-digis-spec =

@@ -28,14 +28,14 @@ returns : tie.Need-returns
 returns c =
     let a = c .before .before .before .before .before .before .before .before .args in
     let b = unpack (now (a .s)) in
-    ends-none (a .l) (a .last) b _ (now (a .out)) 0 (untaken (fieldOf (a .l) false false) b (readToken (a .l) (drop (a .at) b)) _ 0 _ _ (c .before .before .before .before .read-address .ensures) (c .enum-told .given .1))
+    ends-none (a .mended) (a .l) (a .last) b _ (now (a .out)) 0 (untaken (fieldOf (a .l) false false) b (readToken (a .mended) (a .l) (drop (a .at) b)) _ 0 _ _ (c .before .before .before .before .read-address .ensures) (c .enum-told .given .1))
 
 read-address-requires-2 : tie.Need-read-address-requires-2
 read-address-requires-2 c κs =
     let start = c .before .before .before .before .before .before .before .before .before .before in
     let a = start .args in
     let b = unpack (now (a .s)) in
-    let t = took (fieldOf (a .l) false false) b (readToken (a .l) (drop (a .at) b)) _ 0 _ _ (c .before .before .before .before .before .before .read-address .ensures) _ _ (c .before .before .p .given .1) in
+    let t = took (fieldOf (a .l) false false) b (readToken (a .mended) (a .l) (drop (a .at) b)) _ 0 _ _ (c .before .before .before .before .before .before .read-address .ensures) _ _ (c .before .before .p .given .1) in
     (start .pre .0, start .pre .1, start .pre .2, omega (arith, place-next (a .l) false false t, start .pre .2))
 
 same-length-2 : tie.Need-same-length-2
@@ -45,9 +45,9 @@ returns-2 : tie.Need-returns-2
 returns-2 c =
     let a = c .before .before .before .before .before .before .before .before .before .before .before .before .before .args in
     let b = unpack (now (a .s)) in
-    let t = took (fieldOf (a .l) false false) b (readToken (a .l) (drop (a .at) b)) _ 0 _ _ (c .before .before .before .before .before .before .before .before .before .read-address .ensures) _ _ (c .before .before .before .before .before .p .given .1) in
+    let t = took (fieldOf (a .l) false false) b (readToken (a .mended) (a .l) (drop (a .at) b)) _ 0 _ _ (c .before .before .before .before .before .before .before .before .before .read-address .ensures) _ _ (c .before .before .before .before .before .p .given .1) in
     let second = c .before .before .read-address2 in
-    ends-then (a .l) (a .last) b (drop (a .at) b) _ 0 _ _ _ t (second .last .1 .1 .1 .1 .1 .0) (second .result) (second .ensures)
+    ends-then (a .mended) (a .l) (a .last) b (drop (a .at) b) _ 0 _ _ _ t (second .last .1 .1 .1 .1 .1 .0) (second .result) (second .ensures)
 
 pub read-ends-spec : {M : Type 1} → statement M
 read-ends-spec =

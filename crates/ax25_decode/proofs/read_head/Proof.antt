@@ -21,7 +21,7 @@ bits-in-requires c κs = search needs
 returns : tie.Need-returns
 returns c =
     let a = c .before .before .before .before .args in
-    head-short (a .l) (a .n) (unpack (now (a .s))) (omega (arith, c .if1 .taken, c .before .bits-in .ensures, length-unpack (now (a .s))))
+    head-short (a .mended) (a .l) (a .n) (unpack (now (a .s))) (omega (arith, c .if1 .taken, c .before .bits-in .ensures, length-unpack (now (a .s))))
 
 is-ap-requires : tie.Need-is-ap-requires
 is-ap-requires c κs = search needs
@@ -43,8 +43,8 @@ returns-2 c =
     let a = c .before .before .before .before .before .before .before .before .before .before .before .args in
     let b = unpack (now (a .s)) in
     let room : a .n ≤ length b = omega (arith, c .before .before .before .before .before .before .before .if1 .left, c .before .before .before .before .before .before .before .before .bits-in .ensures, length-unpack (now (a .s))) in
-    head-ends (a .l) (a .n) b room
-    (untaken (endsBytes (a .l) (eqb (a .n) 0)) b (readEnds (a .l) (drop (a .n) b)) _ 0 _ _ (c .before .before .before .before .read-ends .ensures) (c .enum-told .given .1))
+    head-ends (a .mended) (a .l) (a .n) b room
+    (untaken (endsBytes (a .l) (eqb (a .n) 0)) b (readEnds (a .mended) (a .l) (drop (a .n) b)) _ 0 _ _ (c .before .before .before .before .read-ends .ensures) (c .enum-told .given .1))
 
 read-digis-requires : tie.Need-read-digis-requires
 read-digis-requires c κs =
@@ -52,7 +52,7 @@ read-digis-requires c κs =
     let pre = start .pre in
     let a = start .args in
     let b = unpack (now (a .s)) in
-    let t = took (endsBytes (a .l) (eqb (a .n) 0)) b (readEnds (a .l) (drop (a .n) b)) _ 0 _ _ (c .before .before .before .before .before .before .read-ends .ensures) _ _ (c .before .before .p .given .1) in
+    let t = took (endsBytes (a .l) (eqb (a .n) 0)) b (readEnds (a .mended) (a .l) (drop (a .n) b)) _ 0 _ _ (c .before .before .before .before .before .before .read-ends .ensures) _ _ (c .before .before .p .given .1) in
     (pre .0, pre .1, pre .2, pre .3, omega (arith, c .before .before .before .before .before .before .before .before .before .if1 .left, c .before .before .before .before .before .before .before .before .before .before .bits-in .ensures), omega (arith, ends-place (a .l) (eqb (a .n) 0) t, pre .2))
 
 enum-known-u : tie.Need-enum-known-u
@@ -70,10 +70,10 @@ returns-3 c =
     let b = unpack (now (a .s)) in
     let room : a .n ≤ length b = omega (arith, c .before .before .before .before .before .before .before .before .before .before .before .before .before .before .if1 .left, c .before .before .before .before .before .before .before .before .before .before .before .before .before .before .before .bits-in .ensures, length-unpack (now (a .s))) in
     let p = c .before .before .before .before .before .before .before .p .given .0 .0 in
-    let t = took (endsBytes (a .l) (eqb (a .n) 0)) b (readEnds (a .l) (drop (a .n) b)) _ 0 _ _ (c .before .before .before .before .before .before .before .before .before .before .before .read-ends .ensures) _ _ (c .before .before .before .before .before .before .before .p .given .1) in
+    let t = took (endsBytes (a .l) (eqb (a .n) 0)) b (readEnds (a .mended) (a .l) (drop (a .n) b)) _ 0 _ _ (c .before .before .before .before .before .before .before .before .before .before .before .read-ends .ensures) _ _ (c .before .before .before .before .before .before .before .p .given .1) in
     let y = c .before .before .before .before .before .before .before .before .before .before .before .before .before .is-ap in
-    head-digis (a .l) (a .n) b room (t .value) (drop p b) (t .is) (y .result) (y .ensures)
-    (untaken (digiBytes (a .l) b (a .n) 0) b (readDigis (a .l) (y .result) (a .n) (drop p b)) _ _ _ _ (c .before .before .before .before .read-digis .ensures) (c .enum-told2 .given .1))
+    head-digis (a .mended) (a .l) (a .n) b room (t .value) (drop p b) (t .is) (y .result) (y .ensures)
+    (untaken (digiBytes (a .l) b (a .n) 0) b (readDigis (a .mended) (a .l) (y .result) (a .n) (drop p b)) _ _ _ _ (c .before .before .before .before .read-digis .ensures) (c .enum-told2 .given .1))
 
 read-type-requires : tie.Need-read-type-requires
 read-type-requires c κs = search needs
@@ -94,10 +94,10 @@ returns-4 c =
     let room : a .n ≤ length b = omega (arith, c .before .before .before .before .before .before .before .before .before .before .before .before .before .before .before .before .before .before .if1 .left, c .before .before .before .before .before .before .before .before .before .before .before .before .before .before .before .before .before .before .before .bits-in .ensures, length-unpack (now (a .s))) in
     let p = c .before .before .before .before .before .before .before .before .before .before .before .p .given .0 .0 in
     let u = c .before .before .before .before .u .given .0 .0 in
-    let t = took (endsBytes (a .l) (eqb (a .n) 0)) b (readEnds (a .l) (drop (a .n) b)) _ 0 _ _ (c .before .before .before .before .before .before .before .before .before .before .before .before .before .before .before .read-ends .ensures) _ _ (c .before .before .before .before .before .before .before .before .before .before .before .p .given .1) in
+    let t = took (endsBytes (a .l) (eqb (a .n) 0)) b (readEnds (a .mended) (a .l) (drop (a .n) b)) _ 0 _ _ (c .before .before .before .before .before .before .before .before .before .before .before .before .before .before .before .read-ends .ensures) _ _ (c .before .before .before .before .before .before .before .before .before .before .before .p .given .1) in
     let y = c .before .before .before .before .before .before .before .before .before .before .before .before .before .before .before .before .before .is-ap in
-    let d = took (digiBytes (a .l) b (a .n) 0) b (readDigis (a .l) (y .result) (a .n) (drop p b)) _ _ _ _ (c .before .before .before .before .before .before .before .before .read-digis .ensures) _ _ (c .before .before .before .before .u .given .1) in
-    head-type (a .l) (a .n) b room (t .value) (drop p b) (t .is) (y .result) (y .ensures) (d .value) (drop u b) (d .is)
+    let d = took (digiBytes (a .l) b (a .n) 0) b (readDigis (a .mended) (a .l) (y .result) (a .n) (drop p b)) _ _ _ _ (c .before .before .before .before .before .before .before .before .read-digis .ensures) _ _ (c .before .before .before .before .u .given .1) in
+    head-type (a .mended) (a .l) (a .n) b room (t .value) (drop p b) (t .is) (y .result) (y .ensures) (d .value) (drop u b) (d .is)
     (untyped b (readType (y .result) (drop u b)) (c .before .before .read-type .result) (c .before .before .read-type .ensures) (c .enum-told3 .given .1))
 
 same-length-4 : tie.Need-same-length-4
@@ -110,11 +110,11 @@ returns-5 c =
     let room : a .n ≤ length b = omega (arith, c .before .before .before .before .before .before .before .before .before .before .before .before .before .before .before .before .before .before .before .if1 .left, c .before .before .before .before .before .before .before .before .before .before .before .before .before .before .before .before .before .before .before .before .bits-in .ensures, length-unpack (now (a .s))) in
     let p = c .before .before .before .before .before .before .before .before .before .before .before .before .p .given .0 .0 in
     let u = c .before .before .before .before .before .u .given .0 .0 in
-    let t = took (endsBytes (a .l) (eqb (a .n) 0)) b (readEnds (a .l) (drop (a .n) b)) _ 0 _ _ (c .before .before .before .before .before .before .before .before .before .before .before .before .before .before .before .before .read-ends .ensures) _ _ (c .before .before .before .before .before .before .before .before .before .before .before .before .p .given .1) in
+    let t = took (endsBytes (a .l) (eqb (a .n) 0)) b (readEnds (a .mended) (a .l) (drop (a .n) b)) _ 0 _ _ (c .before .before .before .before .before .before .before .before .before .before .before .before .before .before .before .before .read-ends .ensures) _ _ (c .before .before .before .before .before .before .before .before .before .before .before .before .p .given .1) in
     let y = c .before .before .before .before .before .before .before .before .before .before .before .before .before .before .before .before .before .before .is-ap in
-    let d = took (digiBytes (a .l) b (a .n) 0) b (readDigis (a .l) (y .result) (a .n) (drop p b)) _ _ _ _ (c .before .before .before .before .before .before .before .before .before .read-digis .ensures) _ _ (c .before .before .before .before .before .u .given .1) in
+    let d = took (digiBytes (a .l) b (a .n) 0) b (readDigis (a .mended) (a .l) (y .result) (a .n) (drop p b)) _ _ _ _ (c .before .before .before .before .before .before .before .before .before .read-digis .ensures) _ _ (c .before .before .before .before .before .u .given .1) in
     let k = typed b (readType (y .result) (drop u b)) (c .before .before .before .read-type .result) (c .before .before .before .read-type .ensures) _ _ (c .before .typ .given .1) in
-    head-some (a .l) (a .n) b room (t .value) (drop p b) (t .is) (y .result) (y .ensures) (d .value) (drop u b) (d .is) _ _ (k .0) (k .1) (c .before .before .before .before .before .before .before .before .before .before .before .before .before .before .before .before .before .before .before .before .before .before .before .pre .3) _ _ _ _ _ (t .wrote) (d .wrote)
+    head-some (a .mended) (a .l) (a .n) b room (t .value) (drop p b) (t .is) (y .result) (y .ensures) (d .value) (drop u b) (d .is) _ _ (k .0) (k .1) (c .before .before .before .before .before .before .before .before .before .before .before .before .before .before .before .before .before .before .before .before .before .before .before .pre .3) _ _ _ _ _ (t .wrote) (d .wrote)
 
 pub read-head-spec : {M : Type 1} → statement M
 read-head-spec =

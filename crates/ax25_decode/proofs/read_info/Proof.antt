@@ -43,7 +43,7 @@ returns c =
     let b = unpack (now (a .s)) in
     let room : a .at ≤ length b = omega (arith, start .pre .1, length-unpack (now (a .s))) in
     let t = c .before .before .text7-at .ensures in
-    rw (info-text (a .l) b (a .at) (a .typ) (c .before .before .before .before .enum-told .given .1) room) (text7-reads _ _ _ _ _ (t .0) (t .1))
+    rw (info-text (a .mended) (a .l) b (a .at) (a .typ) (c .before .before .before .before .enum-told .given .1) room) (text7-reads _ _ _ _ _ (t .0) (t .1))
 
 same-length-2 : tie.Need-same-length-2
 same-length-2 c = search needs
@@ -52,7 +52,7 @@ returns-2 : tie.Need-returns-2
 returns-2 c =
     let a = c .before .before .before .before .before .before .before .before .args in
     let b = unpack (now (a .s)) in
-    rw (info-binary (a .l) b (a .at) (a .typ) (c .before .before .before .before .enum-told2 .given .1)) (reads (c .before .before .read-bytes .ensures))
+    rw (info-binary (a .mended) (a .l) b (a .at) (a .typ) (c .before .before .before .before .enum-told2 .given .1)) (reads (c .before .before .read-bytes .ensures))
 
 same-length-3 : tie.Need-same-length-3
 same-length-3 c = search needs
@@ -61,7 +61,7 @@ returns-3 : tie.Need-returns-3
 returns-3 c =
     let a = c .before .before .before .before .before .before .before .before .args in
     let b = unpack (now (a .s)) in
-    rw (info-third (a .l) b (a .at) (a .typ) (c .before .before .before .before .enum-told3 .given .1)) (c .before .before .third-decode .ensures)
+    rw (info-third (a .mended) (a .l) b (a .at) (a .typ) (c .before .before .before .before .enum-told3 .given .1)) (c .before .before .third-decode .ensures)
 
 same-length-4 : tie.Need-same-length-4
 same-length-4 c = search needs
@@ -70,7 +70,7 @@ returns-4 : tie.Need-returns-4
 returns-4 c =
     let a = c .before .before .before .before .before .before .before .args in
     let b = unpack (now (a .s)) in
-    rw (info-body (a .l) b (a .at) (a .typ) (c .before .before .before .before .match .keys4)) (c .before .before .aprs-decode .ensures)
+    rw (info-body (a .mended) (a .l) b (a .at) (a .typ) (c .before .before .before .before .match .keys4)) (c .before .before .aprs-decode .ensures)
 
 pub read-info-spec : {M : Type 1} → statement M
 read-info-spec =

@@ -5,9 +5,9 @@ use mathlib.Core.Path.{sym, _∙_}
 use native.Mathlib.Omega.{arith}
 use denote.Ref.{now}
 use Rattle.laws.specs.Bits.{unpack}
-use Rattle.bits.specs.Read.{tookText}
-use Rattle.bits.proofs.TakenLaws.{next-at, told-small, told-text-small}
-use Rattle.ax25_token.proofs.ReaderWays.{no-digit, no-number, with-pair}
+use Rattle.bits.proofs.TakenLaws.{next-at, told-small}
+use Rattle.ax25_token.specs.Call.{tookWide}
+use Rattle.ax25_token.proofs.ReaderWays.{told-wide-small, no-digit, no-number, with-pair}
 use Rattle.ax25_token.proofs.pair.Statement.{statement}
 use Rattle.ax25_token.proofs.pair.Tie as tie
 
@@ -25,7 +25,7 @@ nothing-requires c κs = search needs
 
 returns : tie.Need-returns
 returns c =
-    no-digit _ (c .before .before .before .before .before .args .at) _ _ (sym (c .before .before .before .pair-at .ensures .0) ∙ c .before .enum-told .given .1) _ (c .nothing .ensures)
+    no-digit _ _ (c .before .before .before .before .before .args .at) _ _ (sym (c .before .before .before .pair-at .ensures .0) ∙ c .before .enum-told .given .1) _ (c .nothing .ensures)
 
 enum-known-number : tie.Need-enum-known-number
 enum-known-number c = search needs
@@ -40,8 +40,8 @@ returns-2 : tie.Need-returns-2
 returns-2 c =
     let a = c .before .before .before .before .before .before .before .before .args in
     let digit = sym (c .before .before .before .before .before .before .pair-at .ensures .0) ∙ c .before .before .before .before .digit .given .1 in
-    let number = sym (next-at (tookText (c .before .before .before .before .before .before .before .before .args .w) (unpack (now (c .before .before .before .before .before .before .before .before .args .s)))) _ _ (c .before .before .before .before .before .before .before .before .args .at) _ _ (c .before .before .before .before .digit .given .1) (c .before .before .before .before .before .before .pair-at .ensures .1)) ∙ c .before .enum-told2 .given .1 in
-    no-number _ (a .at) (a .w) _ _ _ digit number _ (c .nothing2 .ensures)
+    let number = sym (next-at (tookWide (a .mended) (a .w) (unpack (now (a .s)))) _ _ (a .at) _ _ (c .before .before .before .before .digit .given .1) (c .before .before .before .before .before .before .pair-at .ensures .1)) ∙ c .before .enum-told2 .given .1 in
+    no-number _ _ (a .at) (a .w) _ _ _ digit number _ (c .nothing2 .ensures)
 
 add-push : tie.Need-add-push
 add-push c =
@@ -58,15 +58,16 @@ push-requires c κs = search needs
 
 suffixed-requires : tie.Need-suffixed-requires
 suffixed-requires c κs =
-    let number = sym (next-at (tookText (c .before .before .before .before .before .before .before .before .before .args .w) (unpack (now (c .before .before .before .before .before .before .before .before .before .args .s)))) _ _ (c .before .before .before .before .before .before .before .before .before .args .at) _ _ (c .before .before .before .before .before .digit .given .1) (c .before .before .before .before .before .before .before .pair-at .ensures .1)) ∙ c .before .before .number .given .1 in
-    omega (arith, told-text-small _ _ (c .before .before .before .before .before .before .before .before .before .args .w) _ _ number 2 (omega arith) (omega arith))
+    let a = c .before .before .before .before .before .before .before .before .before .args in
+    let number = sym (next-at (tookWide (a .mended) (a .w) (unpack (now (a .s)))) _ _ (a .at) _ _ (c .before .before .before .before .before .digit .given .1) (c .before .before .before .before .before .before .before .pair-at .ensures .1)) ∙ c .before .before .number .given .1 in
+    omega (arith, told-wide-small _ _ (a .w) _ _ _ number (omega arith))
 
 returns-3 : tie.Need-returns-3
 returns-3 c =
     let a = c .before .before .before .before .before .before .before .before .before .before .args in
     let digit = sym (c .before .before .before .before .before .before .before .before .pair-at .ensures .0) ∙ c .before .before .before .before .before .before .digit .given .1 in
-    let number = sym (next-at (tookText (c .before .before .before .before .before .before .before .before .before .before .args .w) (unpack (now (c .before .before .before .before .before .before .before .before .before .before .args .s)))) _ _ (c .before .before .before .before .before .before .before .before .before .before .args .at) _ _ (c .before .before .before .before .before .before .digit .given .1) (c .before .before .before .before .before .before .before .before .pair-at .ensures .1)) ∙ c .before .before .before .number .given .1 in
-    with-pair _ (a .at) (a .w) _ _ _ digit _ _ number _ _ (c .before .push .ensures .0) (c .suffixed .ensures .0) (c .before .push .ensures .1) (c .suffixed .ensures .1)
+    let number = sym (next-at (tookWide (a .mended) (a .w) (unpack (now (a .s)))) _ _ (a .at) _ _ (c .before .before .before .before .before .before .digit .given .1) (c .before .before .before .before .before .before .before .before .pair-at .ensures .1)) ∙ c .before .before .before .number .given .1 in
+    with-pair _ _ (a .at) (a .w) _ _ _ digit _ _ number _ _ (c .before .push .ensures .0) (c .suffixed .ensures .0) (c .before .push .ensures .1) (c .suffixed .ensures .1)
 
 pub pair-spec : {M : Type 1} → statement M
 pair-spec =

@@ -1,21 +1,26 @@
--- `ax25_token::pair_at` meets its contract: the walk of a function that reads a bit and a number through one reader, at `Reader::text`.
+-- `ax25_token::pair_at` meets its contract, by the reading.
 -- Assumes nothing.
-use Prim.Native.Nat.{_^_, _≤_, _<_}
-use native.Mathlib.Omega.{arith}
-use lib.ListN.{length}
-use Rattle.bits.proofs.ReaderPairs.{Readings, bit-and}
-use Rattle.bits.proofs.ReaderWays.{reads-text}
-use Rattle.bits.proofs.reader.Reader.bit.Symbol as first
-use Rattle.bits.proofs.reader.Reader.bit.Met as first-thm
-use Rattle.bits.proofs.reader.Reader.text.Symbol as second
-use Rattle.bits.proofs.reader.Reader.text.Met as second-thm
-use Rattle.ax25_token.proofs.pair_at.Key.{name}
-use Rattle.ax25_token.proofs.pair_at.Statement as stated
-use Rattle.ax25_token.proofs.pair_at.Code as code
+use borrow.Author.Needs.{needs}
+use mathlib.Core.Path.{_∙_}
+use Rattle.ax25_token.proofs.ReaderWays.{took-binary, took-digits}
+use Rattle.ax25_token.proofs.pair_at.Statement.{statement}
+use Rattle.ax25_token.proofs.pair_at.Tie as tie
 
-abbrev digits : Readings
-digits = record { second = reads-text; Needs = λ bytes n. (n ≤ 2) × (length bytes < 2 ^ 60); one = λ bytes at n small. small .1; other = λ bytes at n small. (omega (arith, small .0), small .1) }
+bit-take-at-requires : tie.Need-bit-take-at-requires
+bit-take-at-requires c κs = search needs
 
-pub pair-at-spec : {M : Type 1} → stated.statement M
-unfolding code.routine
-pair-at-spec 𝓤 H 𝓜 𝓖 𝓡 = bit-and digits 𝓤 H 𝓜 𝓖 𝓡 code.env name first.name second.name first.routine second.routine (code.unfolded 𝓤 H 𝓜 𝓡) code.calls-bits·reader·Reader·bit (first-thm.met 𝓤 H 𝓜 𝓖 𝓡) code.calls-bits·reader·Reader·text (second-thm.met 𝓤 H 𝓜 𝓖 𝓡)
+returns : tie.Need-returns
+returns c =
+    let found = c .bit-take-at .ensures in
+    (found .0, found .1 ∙ took-binary _ _ _ _ (c .before .if1 .taken))
+
+bit-text-at-requires : tie.Need-bit-text-at-requires
+bit-text-at-requires c κs = search needs
+
+returns-2 : tie.Need-returns-2
+returns-2 c =
+    let found = c .bit-text-at .ensures in
+    (found .0, found .1 ∙ took-digits _ _ _ _ (c .before .if1 .left))
+
+pub pair-at-spec : {M : Type 1} → statement M
+pair-at-spec = tie.close (tie.spec bit-take-at-requires returns bit-text-at-requires returns-2)

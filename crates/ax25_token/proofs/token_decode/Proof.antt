@@ -20,7 +20,7 @@ nothing-requires : tie.Need-nothing-requires
 nothing-requires c κs = search needs
 
 returns : tie.Need-returns
-returns c = no-index _ (c .before .before .before .before .before .args .at) _ (sym (c .before .before .before .take-at .ensures) ∙ c .before .enum-told .given .1) _ (c .nothing .ensures)
+returns c = no-index _ _ (c .before .before .before .before .before .args .at) _ (sym (c .before .before .before .take-at .ensures) ∙ c .before .enum-told .given .1) _ (c .nothing .ensures)
 
 sub-letters : tie.Need-sub-letters
 sub-letters c = search needs
@@ -48,17 +48,17 @@ nothing-requires-2 c κs = search needs
 
 returns-2 : tie.Need-returns-2
 returns-2 c =
-    by-ap _ (c .before .before .before .before .before .before .before .before .args .at) _ _ _ (sym (c .before .before .before .before .before .before .take-at .ensures) ∙ c .before .before .before .before .i .given .1) (c .before .before .match2 .keys1) (omega arith) (omega arith) _ (c .before .begun .ensures .0) (c .before .begun .ensures .1) _ (c .letters .ensures)
+    by-ap _ _ (c .before .before .before .before .before .before .before .before .args .at) _ _ _ (sym (c .before .before .before .before .before .before .take-at .ensures) ∙ c .before .before .before .before .i .given .1) (c .before .before .match2 .keys1) (omega arith) (omega arith) _ (c .before .begun .ensures .0) (c .before .begun .ensures .1) _ (c .letters .ensures)
 
 returns-3 : tie.Need-returns-3
 returns-3 c =
-    by-letters _ (c .before .before .before .before .before .before .before .before .before .args .at) _ _ _ (sym (c .before .before .before .before .before .before .before .take-at .ensures) ∙ c .before .before .before .before .before .i .given .1) (omega arith) (omega arith) (omega arith) _ (c .before .first .ensures .0) (c .before .first .ensures .1) _ (c .spelled .ensures)
+    by-letters _ _ (c .before .before .before .before .before .before .before .before .before .args .at) _ _ _ (sym (c .before .before .before .before .before .before .before .take-at .ensures) ∙ c .before .before .before .before .before .i .given .1) (omega arith) (omega arith) (omega arith) _ (c .before .first .ensures .0) (c .before .first .ensures .1) _ (c .spelled .ensures)
 
 returns-4 : tie.Need-returns-4
-returns-4 c = by-name _ (c .before .before .before .before .before .before .before .before .before .args .at) _ _ _ (sym (c .before .before .before .before .before .before .before .take-at .ensures) ∙ c .before .before .before .before .before .i .given .1) _ (c .named .ensures .0) (c .named .ensures .1)
+returns-4 c = by-name _ _ (c .before .before .before .before .before .before .before .before .before .args .at) _ _ _ (sym (c .before .before .before .before .before .before .before .take-at .ensures) ∙ c .before .before .before .before .before .i .given .1) _ (c .named .ensures .0) (c .named .ensures .1)
 
 returns-5 : tie.Need-returns-5
-returns-5 c = by-none _ (c .before .before .before .before .before .before .before .before .before .args .at) _ _ _ (sym (c .before .before .before .before .before .before .before .take-at .ensures) ∙ c .before .before .before .before .before .i .given .1) (omega arith) _ (c .nothing2 .ensures)
+returns-5 c = by-none _ _ (c .before .before .before .before .before .before .before .before .before .args .at) _ _ _ (sym (c .before .before .before .before .before .before .before .take-at .ensures) ∙ c .before .before .before .before .before .i .given .1) (omega arith) _ (c .nothing2 .ensures)
 
 pub token-decode-spec : {M : Type 1} → statement M
 token-decode-spec =

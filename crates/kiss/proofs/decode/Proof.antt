@@ -14,12 +14,12 @@ use Rattle.kiss.proofs.decode.Tie as tie
 returns : tie.Need-returns
 returns c =
     let a = c .before .before .before .args in
-    tell-refused (λ d. d .bytes) (λ d. d .command) (now (a .out)) 2 (too-long (now (a .message)) (c .if1 .taken))
+    tell-refused (λ d. d .bytes) (λ d. d .command) (now (a .out)) 2 (too-long (a .mended) (now (a .message)) (c .if1 .taken))
 
 returns-2 : tie.Need-returns-2
 returns-2 c =
     let a = c .before .before .before .before .args in
-    tell-refused (λ d. d .bytes) (λ d. d .command) (now (a .out)) 7 (of-empty (now (a .message)) (c .if2 .taken))
+    tell-refused (λ d. d .bytes) (λ d. d .command) (now (a .out)) 7 (of-empty (a .mended) (now (a .message)) (c .if2 .taken))
 
 shared-slice-read-command : tie.Need-shared-slice-read-command
 shared-slice-read-command c = search needs
@@ -27,7 +27,7 @@ shared-slice-read-command c = search needs
 returns-3 : tie.Need-returns-3
 returns-3 c =
     let a = c .before .before .before .before .before .before .args in
-    tell-refused (λ d. d .bytes) (λ d. d .command) (now (a .out)) 7 (of-three (now (a .message)) (c .before .before .before .if1 .left) (c .before .before .if2 .left) (c .if3 .taken))
+    tell-refused (λ d. d .bytes) (λ d. d .command) (now (a .out)) 7 (of-three (a .mended) (now (a .message)) (c .before .before .before .if1 .left) (c .before .before .if2 .left) (c .if3 .taken))
 
 decode-generic-requires : tie.Need-decode-generic-requires
 decode-generic-requires c κs = search needs
@@ -38,7 +38,7 @@ same-length c = search needs
 returns-4 : tie.Need-returns-4
 returns-4 c =
     let a = c .before .before .before .before .before .before .before .before .before .before .before .args in
-    let e = of-two (now (a .message)) (c .before .before .before .before .before .before .before .before .if1 .left) (c .before .before .before .before .before .before .before .if2 .left) (c .before .before .before .before .before .if3 .left) (c .before .before .before .before .if4 .taken) in
+    let e = of-two (a .mended) (now (a .message)) (c .before .before .before .before .before .before .before .before .if1 .left) (c .before .before .before .before .before .before .before .if2 .left) (c .before .before .before .before .before .if3 .left) (c .before .before .before .before .if4 .taken) in
     c .before .before .decode-generic .ensures ∙ ap (λ (o : Outcome Decoded). decodeInto o (now (a .out))) (sym e)
 
 decode-frame-requires : tie.Need-decode-frame-requires
@@ -50,7 +50,7 @@ same-length-2 c = search needs
 returns-5 : tie.Need-returns-5
 returns-5 c =
     let a = c .before .before .before .before .before .before .before .before .before .before .before .args in
-    let e = of-other (now (a .message)) (c .before .before .before .before .before .before .before .before .if1 .left) (c .before .before .before .before .before .before .before .if2 .left) (c .before .before .before .before .before .if3 .left) (c .before .before .before .before .if4 .left) in
+    let e = of-other (a .mended) (now (a .message)) (c .before .before .before .before .before .before .before .before .if1 .left) (c .before .before .before .before .before .before .before .if2 .left) (c .before .before .before .before .before .if3 .left) (c .before .before .before .before .if4 .left) in
     c .before .before .decode-frame .ensures ∙ ap (λ (o : Outcome Decoded). decodeInto o (now (a .out))) (sym e)
 
 pub decode-spec : {M : Type 1} → statement M

@@ -49,7 +49,7 @@ returns c =
     let a = measure .before .before .before .before .before .before .before .args in
     let l = measure .before .before .before .before .call-len in
     let d = measure .decode in
-    frame-none (a .command) (l .result) _ (now (a .message)) (l .ensures) (now (a .out)) (d .last .1 .1 .1 .0) (d .result) (d .ensures) (c .enum-told .given .1) (d .kept .1 .1 .1 .0)
+    frame-none (a .mended) (a .command) (l .result) _ (now (a .message)) (l .ensures) (now (a .out)) (d .last .1 .1 .1 .0) (d .result) (d .ensures) (c .enum-told .given .1) (d .kept .1 .1 .1 .0)
 
 same-length-2 : tie.Need-same-length-2
 same-length-2 c = search needs
@@ -60,7 +60,7 @@ returns-2 c =
     let a = measure .before .before .before .before .before .before .before .args in
     let l = measure .before .before .before .before .call-len in
     let d = measure .decode in
-    frame-short (a .command) (l .result) _ (now (a .message)) (l .ensures) (now (a .out)) (d .last .1 .1 .1 .0) (d .result) (d .ensures) _ (c .before .before .needed .given .1) (c .if1 .taken)
+    frame-short (a .mended) (a .command) (l .result) _ (now (a .message)) (l .ensures) (now (a .out)) (d .last .1 .1 .1 .0) (d .result) (d .ensures) _ (c .before .before .needed .given .1) (c .if1 .taken)
 
 sub-decode-2 : tie.Need-sub-decode-2
 sub-decode-2 c = search needs
@@ -92,7 +92,7 @@ returns-3 c =
     let l = measure .before .before .before .before .call-len in
     let d = measure .decode in
     let w = write .decode2 in
-    frame-fits (a .command) (l .result) _ (now (a .message)) (l .ensures) (now (a .out)) (d .last .1 .1 .1 .0) (d .result) (d .ensures) _ (else1 .before .before .needed .given .1) (else1 .if1 .left) (w .last .1 .1 .1 .0) (w .result) (w .ensures)
+    frame-fits (a .mended) (a .command) (l .result) _ (now (a .message)) (l .ensures) (now (a .out)) (d .last .1 .1 .1 .0) (d .result) (d .ensures) _ (else1 .before .before .needed .given .1) (else1 .if1 .left) (w .last .1 .1 .1 .0) (w .result) (w .ensures)
 
 pub decode-frame-spec : {M : Type 1} → statement M
 decode-frame-spec =

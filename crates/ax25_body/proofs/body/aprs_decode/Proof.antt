@@ -36,7 +36,7 @@ same-length c = search needs
 returns : tie.Need-returns
 returns c =
     let a = c .before .before .before .before .before .before .before .before .args in
-    rw (read-text (a .typ) (a .l) (drop (a .at) (unpack (now (a .s)))) (c .before .before .before .before .enum-told .given .1)) (reads (c .before .before .text-decode .ensures))
+    rw (read-text (a .mended) (a .typ) (a .l) (drop (a .at) (unpack (now (a .s)))) (c .before .before .before .before .enum-told .given .1)) (reads (c .before .before .text-decode .ensures))
 
 same-length-2 : tie.Need-same-length-2
 same-length-2 c = search needs
@@ -44,7 +44,7 @@ same-length-2 c = search needs
 returns-2 : tie.Need-returns-2
 returns-2 c =
     let a = c .before .before .before .before .before .before .before .before .args in
-    rw (read-position (a .typ) (a .l) (drop (a .at) (unpack (now (a .s)))) (c .before .before .before .before .enum-told2 .given .1)) (c .before .before .position-decode .ensures)
+    rw (read-position (a .mended) (a .typ) (a .l) (drop (a .at) (unpack (now (a .s)))) (c .before .before .before .before .enum-told2 .given .1)) (c .before .before .position-decode .ensures)
 
 same-length-3 : tie.Need-same-length-3
 same-length-3 c = search needs
@@ -52,7 +52,7 @@ same-length-3 c = search needs
 returns-3 : tie.Need-returns-3
 returns-3 c =
     let a = c .before .before .before .before .before .before .before .before .args in
-    rw (read-timestamped (a .typ) (a .l) (drop (a .at) (unpack (now (a .s)))) (c .before .before .before .before .enum-told3 .given .1)) (c .before .before .timestamped-decode .ensures)
+    rw (read-timestamped (a .mended) (a .typ) (a .l) (drop (a .at) (unpack (now (a .s)))) (c .before .before .before .before .enum-told3 .given .1)) (c .before .before .timestamped-decode .ensures)
 
 same-length-4 : tie.Need-same-length-4
 same-length-4 c = search needs
@@ -60,7 +60,7 @@ same-length-4 c = search needs
 returns-4 : tie.Need-returns-4
 returns-4 c =
     let a = c .before .before .before .before .before .before .before .args in
-    rw (read-other (a .typ) (a .l) (drop (a .at) (unpack (now (a .s)))) (c .before .before .before .before .match .keys4)) (c .before .before .message-decode .ensures)
+    rw (read-other (a .mended) (a .typ) (a .l) (drop (a .at) (unpack (now (a .s)))) (c .before .before .before .before .match .keys4)) (c .before .before .message-decode .ensures)
 
 pub aprs-decode-spec : {M : Type 1} → statement M
 aprs-decode-spec =

@@ -29,7 +29,7 @@ returns c =
     let u = unpack (now (a .s)) in
     let b = drop (a .at) u in
     let d = c .before .before .token-decode in
-    rw (message-none (a .l) b (token-nothing u (readToken (a .l) b) (d .result) (d .ensures .0) (c .enum-told .given .1))) refl
+    rw (message-none (a .mended) (a .l) b (token-nothing u (readToken (a .mended) (a .l) b) (d .result) (d .ensures .0) (c .enum-told .given .1))) refl
 
 byte-requires : tie.Need-byte-requires
 byte-requires c κs = search needs
@@ -52,8 +52,8 @@ returns-2 c =
     let u = unpack (now (a .s)) in
     let b = drop (a .at) u in
     let d = c .before .before .before .before .before .before .before .before .before .before .before .before .before .before .before .before .before .before .before .token-decode in
-    let t = token-next u (readToken (a .l) b) (d .result) (d .ensures .0) _ (c .before .before .before .before .before .before .before .before .before .before .before .before .before .before .before .before .before .token .given .1) in
-    rw (message-some (a .l) b (textOf (d .result .call)) (drop (c .before .before .before .before .before .before .before .before .before .before .before .before .before .before .before .before .before .token .given .0 .0) u) t)
+    let t = token-next u (readToken (a .mended) (a .l) b) (d .result) (d .ensures .0) _ (c .before .before .before .before .before .before .before .before .before .before .before .before .before .before .before .before .before .token .given .1) in
+    rw (message-some (a .mended) (a .l) b (textOf (d .result .call)) (drop (c .before .before .before .before .before .before .before .before .before .before .before .before .before .before .before .before .before .token .given .0 .0) u) t)
     (reads (wrote-then (c .before .before .before .before .before .before .before .before .before .before .before .before .before .before .byte .ensures) (wrote-then (c .before .before .before .before .before .before .before .before .before .before .put-filled .ensures .0) (wrote-then (c .before .before .before .before .before .before .byte2 .ensures) (c .before .before .text-decode .ensures)))))
 
 pub message-decode-spec : {M : Type 1} → statement M

@@ -27,7 +27,7 @@ returns c =
     let a = c .before .before .before .before .before .before .args in
     let u = unpack (now (a .s)) in
     let d = c .before .before .token-decode in
-    passes-none _ _ _ _ _ _ (token-nothing u (readToken (a .l) (drop (a .at) u)) (d .result) (d .ensures .0) (c .enum-told .given .1))
+    passes-none _ _ _ _ _ _ (token-nothing u (readToken (a .mended) (a .l) (drop (a .at) u)) (d .result) (d .ensures .0) (c .enum-told .given .1))
 
 copy-requires : tie.Need-copy-requires
 copy-requires c κs = search needs
@@ -47,7 +47,7 @@ returns-2 c =
     passes _ _ _ _ _ _ _ _
     record {
       text = textOf (d .result .call);
-      is = token-next u (readToken (a .l) (drop (a .at) u)) (d .result) (d .ensures .0) _ (c .before .before .before .before .before .before .before .before .before .token .given .1);
+      is = token-next u (readToken (a .mended) (a .l) (drop (a .at) u)) (d .result) (d .ensures .0) _ (c .before .before .before .before .before .before .before .before .before .token .given .1);
       short = omega (arith, d .ensures .1, w .0 .next-is, w .1);
       wrote = wrote-then (c .before .before .before .before .before .before .copy .ensures) (w .0);
     }

@@ -28,7 +28,7 @@ returns : tie.Need-returns
 returns c =
     let a = c .before .before .before .before .before .args in
     let u = unpack (now (a .s)) in
-    rw (inner-none (a .l) (drop (a .at) u) (told-short u (a .at) 2 (sym (c .before .before .take-at .ensures) ∙ c .enum-told .given .1))) refl
+    rw (inner-none (a .mended) (a .l) (drop (a .at) u) (told-short u (a .at) 2 (sym (c .before .before .take-at .ensures) ∙ c .enum-told .given .1))) refl
 
 slice-aggregate-copy : tie.Need-slice-aggregate-copy
 slice-aggregate-copy c = search needs
@@ -56,8 +56,8 @@ returns-2 c =
     let u = unpack (now (a .s)) in
     let k = c .before .before .before .before .before .before .before .before .before .before .before .k .given in
     let t = told-bits u (a .at) 2 (k .0 .0) (k .0 .1 .0) (sym (c .before .before .before .before .before .before .before .before .before .before .before .before .before .take-at .ensures) ∙ k .1) in
-    rw (inner-some (a .l) (drop (a .at) u) (k .0 .0) (drop (k .0 .1 .0) u) t)
-    (reads-then (c .before .before .before .before .before .before .before .copy .ensures) (readBody (innerType (a .l) (k .0 .0)) (a .l) (drop (k .0 .1 .0) u)) _ _ (rw (c .before .before .before .before .inner-type .ensures (a .l)) at (c .before .before .aprs-decode .ensures)))
+    rw (inner-some (a .mended) (a .l) (drop (a .at) u) (k .0 .0) (drop (k .0 .1 .0) u) t)
+    (reads-then (c .before .before .before .before .before .before .before .copy .ensures) (readBody (a .mended) (innerType (k .0 .0)) (a .l) (drop (k .0 .1 .0) u)) _ _ (rw (c .before .before .before .before .inner-type .ensures) at (c .before .before .aprs-decode .ensures)))
 
 pub inner-decode-spec : {M : Type 1} → statement M
 inner-decode-spec =

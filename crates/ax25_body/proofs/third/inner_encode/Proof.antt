@@ -36,7 +36,7 @@ returns-2 c =
     let d = now (a .d) in
     let k = before .inner-number in
     rw (inner-is (a .l) d (before .before .if1 .left) (k .result) (k .ensures .0))
-    (does-then (c .before .before .before .before .before .before .before .push .ensures .0) (bodyBits (innerType (a .l) (k .result)) (a .l) (afterType (innerType (a .l) (k .result)) d)) _ _ (rw (c .before .before .before .before .inner-type .ensures (a .l)) at (c .before .before .aprs-encode .ensures)))
+    (does-then (c .before .before .before .before .before .before .before .push .ensures .0) (bodyBits (innerType (k .result)) (a .l) (afterType (innerType (k .result)) d)) _ _ (rw (c .before .before .before .before .inner-type .ensures) at (c .before .before .aprs-encode .ensures)))
 
 pub inner-encode-spec : {M : Type 1} → statement M
 inner-encode-spec =

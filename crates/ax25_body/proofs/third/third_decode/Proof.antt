@@ -33,7 +33,7 @@ returns : tie.Need-returns
 returns c =
     let a = c .before .before .before .before .before .before .before .before .before .args in
     let b = drop (a .at) (unpack (now (a .s))) in
-    rw (third-first (a .l) b (passed-none _ _ _ _ _ _ _ (c .enum-told .given .1) (c .before .before .before .before .call-decode .ensures))) refl
+    rw (third-first (a .mended) (a .l) b (passed-none _ _ _ _ _ _ _ (c .enum-told .given .1) (c .before .before .before .before .call-decode .ensures))) refl
 
 slice-aggregate-call-decode-2 : tie.Need-slice-aggregate-call-decode-2
 slice-aggregate-call-decode-2 c = search needs
@@ -58,7 +58,7 @@ returns-2 c =
     let a = c .before .before .before .before .before .before .before .before .before .before .before .before .before .before .before .before .before .args in
     let b = drop (a .at) (unpack (now (a .s))) in
     let p = passed _ _ _ _ _ _ _ _ _ (c .before .before .before .before .before .before .before .before .p .given .1) (c .before .before .before .before .before .before .before .before .before .before .before .before .call-decode .ensures) in
-    rw (third-second (a .l) b (p .text) _ (p .is) (passed-none _ _ _ _ _ _ _ (c .enum-told2 .given .1) (c .before .before .before .before .call-decode2 .ensures))) refl
+    rw (third-second (a .mended) (a .l) b (p .text) _ (p .is) (passed-none _ _ _ _ _ _ _ (c .enum-told2 .given .1) (c .before .before .before .before .call-decode2 .ensures))) refl
 
 slice-aggregate-call-decode-3 : tie.Need-slice-aggregate-call-decode-3
 slice-aggregate-call-decode-3 c = search needs
@@ -86,7 +86,7 @@ returns-3 c =
     let b = drop (a .at) (unpack (now (a .s))) in
     let p = passed _ _ _ _ _ _ _ _ _ (c .before .before .before .before .before .before .before .before .before .before .before .before .before .before .before .before .p .given .1) (c .before .before .before .before .before .before .before .before .before .before .before .before .before .before .before .before .before .before .before .before .call-decode .ensures) in
     let q = passed _ _ _ _ _ _ _ _ _ (c .before .before .before .before .before .before .before .before .q .given .1) (c .before .before .before .before .before .before .before .before .before .before .before .before .call-decode2 .ensures) in
-    rw (third-last (a .l) b (p .text) _ (p .is) (q .text) _ (q .is) (passed-none _ _ _ _ _ _ _ (c .enum-told3 .given .1) (c .before .before .before .before .call-decode3 .ensures))) refl
+    rw (third-last (a .mended) (a .l) b (p .text) _ (p .is) (q .text) _ (q .is) (passed-none _ _ _ _ _ _ _ (c .enum-told3 .given .1) (c .before .before .before .before .call-decode3 .ensures))) refl
 
 inner-decode-requires : tie.Need-inner-decode-requires
 inner-decode-requires c κs =
@@ -110,8 +110,8 @@ returns-4 c =
     let q = passed _ _ (ascii ">") _ _ _ _ _ _ (c .before .before .before .before .before .before .before .before .before .before .before .before .before .q .given .1) (c .before .before .before .before .before .before .before .before .before .before .before .before .before .before .before .before .before .call-decode2 .ensures) in
     let r = passed _ _ (ascii ",TCPIP,") _ _ _ _ _ _ (c .before .before .before .before .before .r .given .1) (c .before .before .before .before .before .before .before .before .before .call-decode3 .ensures) in
     let rest = drop (c .before .before .before .before .before .r .given .0 .0) u in
-    rw (third-all (a .l) (drop (a .at) u) (p .text) _ (p .is) (q .text) _ (q .is) (r .text) rest (r .is))
-    (reads-then (wrote-then (p .wrote) (wrote-then (q .wrote) (r .wrote))) (readInner (a .l) rest) _ _ (c .before .before .inner-decode .ensures))
+    rw (third-all (a .mended) (a .l) (drop (a .at) u) (p .text) _ (p .is) (q .text) _ (q .is) (r .text) rest (r .is))
+    (reads-then (wrote-then (p .wrote) (wrote-then (q .wrote) (r .wrote))) (readInner (a .mended) (a .l) rest) _ _ (c .before .before .inner-decode .ensures))
 
 pub third-decode-spec : {M : Type 1} → statement M
 third-decode-spec =
