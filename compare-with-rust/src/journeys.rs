@@ -5,6 +5,7 @@ use crate::calls::{self, Head, Number};
 use crate::codings;
 use crate::histories;
 use crate::lent::Lent;
+use crate::readings::Reading;
 use crate::receiver::Pair;
 use crate::rules::Call;
 use crate::slots::Booking;
@@ -30,6 +31,9 @@ struct Journey {
     fates: Vec<Fate>,
 }
 
+/// What a message is decoded to in the original and in the mended reading.
+type Arrived = [Vec<u8>; 2];
+
 /// Some data on its journey. Counted is whether what is decoded last is the data.
 pub fn journey(r: &mut Random, tally: &mut Tally) {
     let mask = r.one_of(&MASKS);
@@ -39,8 +43,8 @@ pub fn journey(r: &mut Random, tally: &mut Tally) {
     let expected = answers::encode(command, &data);
     let same = codings::encoded(Kind::Journey, command, &data, &expected, vec![Lent::new(r, MAX_MESSAGE)], tally);
     let Some((message, _)) = expected.ok().filter(|_| same) else { return };
-    if let Some(arrived) = journey.travel(&message, r, tally) {
-        tally.arrived(arrived == data);
+    if let Some([original, mended]) = journey.travel(&message, r, tally) {
+        tally.arrived(original == data, mended == data);
     }
 }
 
@@ -68,7 +72,7 @@ impl Journey {
     }
 
     /// The message is sent and heard: what is decoded last, if anything.
-    fn travel(&self, message: &[u8], r: &mut Random, tally: &mut Tally) -> Option<Vec<u8>> {
+    fn travel(&self, message: &[u8], r: &mut Random, tally: &mut Tally) -> Option<Arrived> {
         let mut pair = histories::new(Kind::Journey, self.mask, r, tally)?;
         let mut arrived = None;
         for (fragment, &fate) in self.cut(message, r, tally)?.iter().zip(&self.fates) {
@@ -97,15 +101,22 @@ impl Journey {
     }
 
     /// A frame is pushed, and the message that is done by it decoded. None where something is not as expected.
-    fn hear(&self, frame: &[u8], pair: &mut Pair, r: &mut Random, tally: &mut Tally) -> Option<Option<Vec<u8>>> {
+    fn hear(&self, frame: &[u8], pair: &mut Pair, r: &mut Random, tally: &mut Tally) -> Option<Option<Arrived>> {
         let heard = pair.call(Kind::Journey, Call::Push(frame, self.head.field), tally)?;
         let Heard::Done(length) = heard else { return Some(None) };
         let message = pair.message(length);
-        let expected = codings::decode(message);
-        let room = expected.as_ref().map_or(0, |(data, _)| data.len()) + r.below(2);
-        let same = codings::decoded(Kind::Journey, message, &expected, vec![Lent::new(r, room)], tally);
-        same.then(|| expected.ok().map(|(data, _)| data))
+        let original = decoded(Reading::Original, message, r, tally)?;
+        let mended = decoded(Reading::Mended, message, r, tally)?;
+        Some(original.zip(mended).map(Arrived::from))
     }
+}
+
+/// The data of a message in one of the readings, if it is not refused. None where something is not as expected.
+fn decoded(reading: Reading, message: &[u8], r: &mut Random, tally: &mut Tally) -> Option<Option<Vec<u8>>> {
+    let expected = reading.decode(message);
+    let room = expected.as_ref().map_or(0, |(data, _)| data.len()) + r.below(2);
+    let same = codings::decoded(Kind::Journey, reading, message, &expected, vec![Lent::new(r, room)], tally);
+    same.then(|| expected.ok().map(|(data, _)| data))
 }
 
 /// Half the time all frames are heard; else one is lost or comes twice, or some are changed.

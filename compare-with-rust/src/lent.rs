@@ -7,6 +7,7 @@ use std::ops::Range;
 /// Bytes before and after the part that is lent.
 const MARGIN: usize = 16;
 
+#[derive(Clone)]
 pub struct Lent {
     pub bytes: Vec<u8>,
     part: Range<usize>,

@@ -7,11 +7,15 @@ mod histories;
 mod journeys;
 mod lent;
 mod masks;
+mod mended;
+mod readings;
 mod receiver;
 mod rules;
 mod slots;
 mod spoil;
 mod tally;
+mod tokens;
+mod wide;
 mod writing;
 // Other programs take what is not used here.
 #[allow(dead_code)]
@@ -63,6 +67,7 @@ fn run(time: Duration, seed: u64) -> Tally {
     histories::all_stores(&mut r, &mut tally);
     codings::longest(&mut r, &mut tally);
     codings::written_down(&mut r, &mut tally);
+    codings::wide_calls(&mut r, &mut tally);
     let mut field = 0;
     while began.elapsed() < time {
         calls::fragments(field, &mut r, &mut tally);
@@ -79,6 +84,7 @@ fn run(time: Duration, seed: u64) -> Tally {
             histories::made_up(&mut r, &mut tally);
             histories::history(&mut r, &mut tally);
             journeys::journey(&mut r, &mut tally);
+            codings::plain(&mut r, &mut tally);
         }
         for _ in 0..400 {
             codings::coding(&mut r, &mut tally);

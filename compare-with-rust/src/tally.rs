@@ -21,11 +21,14 @@ pub enum Kind {
     Encode,
     Summary,
     Decode,
+    DecodeMended,
+    Readings,
+    PlainBack,
     Journey,
 }
 
 /// How many kinds there are.
-pub const KINDS: usize = 15;
+pub const KINDS: usize = 18;
 
 const ROWS: [&str; KINDS] = [
     "crc",
@@ -42,6 +45,9 @@ const ROWS: [&str; KINDS] = [
     "encode",
     "summary",
     "decode",
+    "decode mended",
+    "both readings",
+    "plain comes back",
     "journey",
 ];
 
@@ -91,8 +97,11 @@ pub struct Tally {
     coded: BTreeMap<Result<u8, u8>, u64>,
     decoded: BTreeMap<Result<u8, u8>, u64>,
     longest: usize,
+    misread: u64,
+    changed: BTreeMap<Result<u8, u8>, u64>,
     decoded_journeys: u64,
     unchanged_journeys: u64,
+    unchanged_mended: u64,
 }
 
 impl Tally {
@@ -183,10 +192,23 @@ impl Tally {
         self.longest = self.longest.max(length);
     }
 
-    /// Counts the journeys at whose end a message is decoded, and those whose data is then what it was.
-    pub fn arrived(&mut self, unchanged: bool) {
+    /// Counts the original answers that hold a call as which a WIDE token is misread.
+    pub fn misread(&mut self, misread: bool) {
+        self.misread += u64::from(misread);
+    }
+
+    /// Counts the answers that differ between the two readings, by what the original one is.
+    pub fn readings(&mut self, original: Result<u8, u8>, differ: bool) {
+        if differ {
+            *self.changed.entry(original).or_default() += 1;
+        }
+    }
+
+    /// Counts the journeys at whose end a message is decoded, and those whose data is then what it was, in each reading.
+    pub fn arrived(&mut self, original: bool, mended: bool) {
         self.decoded_journeys += 1;
-        self.unchanged_journeys += u64::from(unchanged);
+        self.unchanged_journeys += u64::from(original);
+        self.unchanged_mended += u64::from(mended);
     }
 
     pub fn compared(&self) -> u64 {
@@ -217,7 +239,16 @@ impl Tally {
         );
         text += &format!("coded: {}\n", told("type", &self.coded));
         text += &format!("decoded: {}, at most {} bytes\n", told("command", &self.decoded), self.longest);
-        text + &format!("journeys: {} decoded, {} unchanged\n", self.decoded_journeys, self.unchanged_journeys)
+        text += &format!(
+            "both readings: {} answers differ ({}), of {} that hold a WIDE call with SSID 10 or 11\n",
+            self.changed.values().sum::<u64>(),
+            told("command", &self.changed),
+            self.misread
+        );
+        text + &format!(
+            "journeys: {} decoded, {} unchanged, {} unchanged in the mended reading\n",
+            self.decoded_journeys, self.unchanged_journeys, self.unchanged_mended
+        )
     }
 }
 

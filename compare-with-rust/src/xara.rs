@@ -140,6 +140,7 @@ unsafe extern "C" {
     fn xara_encode(command: u8, data: *const u8, data_len: usize, out: *mut u8, out_len: usize) -> Encoded;
     fn xara_summary(command: u8, data: *const u8, data_len: usize) -> Summary;
     fn xara_decode(message: *const u8, message_len: usize, out: *mut u8, out_len: usize) -> Decoded;
+    fn xara_decode_mended(message: *const u8, message_len: usize, out: *mut u8, out_len: usize) -> Decoded;
 }
 
 pub fn crc<'a>(data: impl Into<Bytes<'a>>) -> u16 {
@@ -174,6 +175,11 @@ pub fn summary<'a>(command: u8, data: impl Into<Bytes<'a>>) -> Summary {
 pub fn decode<'a>(message: impl Into<Bytes<'a>>, out: &mut [u8]) -> Decoded {
     let message = message.into();
     unsafe { xara_decode(message.start, message.length, out.as_mut_ptr(), out.len()) }
+}
+
+pub fn decode_mended<'a>(message: impl Into<Bytes<'a>>, out: &mut [u8]) -> Decoded {
+    let message = message.into();
+    unsafe { xara_decode_mended(message.start, message.length, out.as_mut_ptr(), out.len()) }
 }
 
 impl Receiver {
