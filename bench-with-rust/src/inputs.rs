@@ -82,6 +82,13 @@ pub fn digipeated_frame(calls: &[[u8; 6]; 8]) -> Vec<u8> {
     [&address(b"APRS  ", 0, false)[..], &address(b"DL1ABC", 9, false), &digis, &[0x03, 0xF0], b">hello!!"].concat()
 }
 
+/// A status report through the digipeaters WIDE1-1 and WIDE2-2, as cars send it.
+pub fn wide_frame() -> Vec<u8> {
+    let digis = [address(b"WIDE1 ", 1, false), address(b"WIDE2 ", 2, true)].concat();
+    let ends = [address(b"APRS  ", 0, false), address(b"DL1ABC", 9, false)].concat();
+    [&ends[..], &digis, &[0x03, 0xF0], b">on the way to the relay on the hill"].concat()
+}
+
 /// The same frame with an underscore, which has no code, as the second letter of address k.
 pub fn bad_letter(mut frame: Vec<u8>, k: usize) -> Vec<u8> {
     frame[7 * k + 1] = b'_' << 1;

@@ -19,6 +19,7 @@ fn main() -> ExitCode {
     let mut table = Table::new(words.into_iter().next().unwrap_or_default());
     rows::codings(&mut table);
     rows::position(&mut table);
+    rows::types(&mut table);
     rows::calls(&mut table);
     rows::summaries(&mut table);
     rows::crc(&mut table);

@@ -3,10 +3,10 @@
 
 use crate::inputs::{
     Random, bad_letter, binary_frame, digipeated_frame, frame_with, long_frame, message, polled, position_frame,
-    station, text_frame,
+    station, text_frame, wide_frame,
 };
 use crate::table::{Table, same};
-use crate::xara::{self, Heard, Receiver};
+use crate::xara::{self, Decoded, Heard, Receiver};
 use std::hint::black_box;
 use std::rc::Rc;
 use xara_arq::ax25;
@@ -21,10 +21,12 @@ const LONGEST: usize = 4999;
 const MOST_DECODED: usize = 45_764;
 /// The receiver's store.
 const STORE: usize = 5000;
-/// Text and generic 7 bit of 4,999 bytes; the position report; crc, fragments, frame and push; fragments and push under a
-/// mask of another number of check bits; the summary; calls.
+/// Text and generic 7 bit of 4,999 bytes; the position report; the other types, decoded; crc, fragments, frame and push;
+/// fragments and push under a mask of another number of check bits; the summary; calls. A row of the mended reading has the
+/// bar of the original one: the source has no such reading, so it is held against its `decode` of the same message.
 const TEXT_BAR: f64 = 5.0;
 const POSITION_BAR: f64 = 2.0;
+const TYPES_BAR: f64 = 1.0;
 const OTHER_BAR: f64 = 3.0;
 const MASK_BAR: f64 = 1.0;
 const SUMMARY_BAR: f64 = 1.0;
@@ -53,9 +55,18 @@ pub fn position(table: &mut Table) {
     coding(table, "position", Command::Ax25, position_frame(), Some(POSITION_BAR));
 }
 
+/// The other types, decoded.
+pub fn types(table: &mut Table) {
+    for (kind, information) in TYPES {
+        let data = frame_with(information);
+        let message = kiss::encode(Command::Ax25, &data).expect("the input is accepted").bytes;
+        decodings(table, kind, &data, message.into(), Some(TYPES_BAR));
+    }
+}
+
 /// What a loaded relay codes letter by letter: the calls of eight digipeaters, of six letters, of three, and of small letters, which
-/// are coded as capitals; calls of seven letters; and frames refused for a letter without a code, in the source and in the last
-/// digipeater.
+/// are coded as capitals; calls of seven letters; the tokens of WIDE1-1 and WIDE2-2; and frames refused for a letter without a code,
+/// in the source and in the last digipeater.
 pub fn calls(table: &mut Table) {
     let bar = Some(CALLS_BAR);
     let (six, three, small) = [b"DB0XYZ", b"K2B   ", b"db0xyz"].map(|call| digipeated_frame(&[*call; 8])).into();
@@ -67,6 +78,7 @@ pub fn calls(table: &mut Table) {
     coding(table, "six letters", Command::Ax25, six, bar);
     coding(table, "three letters", Command::Ax25, three, bar);
     coding(table, "long text", Command::Ax25Long, long_frame(), bar);
+    coding(table, "wide digis", Command::Ax25, wide_frame(), bar);
     stations(table, bar);
 }
 
@@ -97,10 +109,19 @@ fn stations(table: &mut Table, bar: Option<f64>) {
 
 /// Some data both ways.
 fn coding(table: &mut Table, kind: &str, command: Command, data: Vec<u8>, bar: Option<f64>) {
-    let (bytes, data): (_, Rc<[u8]>) = (data.len(), data.into());
+    let data: Rc<[u8]> = data.into();
     let message = kiss::encode(command, &data).expect("the input is accepted").bytes;
-    encoding(table, kind, command, data, &message, bar);
-    decoding(table, kind, bytes, message.into(), bar);
+    encoding(table, kind, command, Rc::clone(&data), &message, bar);
+    decodings(table, kind, &data, message.into(), bar);
+}
+
+/// The message of some data in both readings: in the original one it gives what the source decodes, in the mended one the data.
+fn decodings(table: &mut Table, kind: &str, data: &[u8], message: Rc<[u8]>, bar: Option<f64>) {
+    let original = kiss::decode(&message).expect("the message is decoded").1;
+    let row =
+        |name: &str| Decoding { name: format!("{name} {kind}"), bytes: data.len(), message: Rc::clone(&message), bar };
+    row("decode").add(table, &original, |message, out| xara::decode(message, out));
+    row("mended").add(table, data, |message, out| xara::decode_mended(message, out));
 }
 
 /// Data that is coded to a message.
@@ -134,24 +155,34 @@ fn refusing(table: &mut Table, kind: &str, command: Command, data: Vec<u8>) {
 }
 
 /// A message that so many bytes were coded to.
-fn decoding(table: &mut Table, kind: &str, bytes: usize, message: Rc<[u8]>, bar: Option<f64>) {
-    let name = format!("decode {kind}");
-    if !table.wants(&name, bytes) {
-        return;
+struct Decoding {
+    name: String,
+    bytes: usize,
+    message: Rc<[u8]>,
+    bar: Option<f64>,
+}
+
+impl Decoding {
+    /// A row of one of our calls, which gives these bytes, beside the source's only one.
+    fn add(self, table: &mut Table, expected: &[u8], call: impl Fn(&[u8], &mut [u8]) -> Decoded + 'static) {
+        let Decoding { name, bytes, message, bar } = self;
+        if !table.wants(&name, bytes) {
+            return;
+        }
+        let mut out = vec![0; MOST_DECODED];
+        let (n, _) = call(&message, &mut out).told().expect("the message is decoded");
+        same(&name, expected, &out[..n]);
+        let theirs = Rc::clone(&message);
+        let source = move || kiss::decode(black_box(&theirs));
+        table.add(&name, bytes, bar, source, move || call(black_box(&message), black_box(&mut out)));
     }
-    let mut out = vec![0; MOST_DECODED];
-    let (n, _) = xara::decode(&message, &mut out).told().expect("the message is decoded");
-    same(&name, &kiss::decode(&message).expect("the message is decoded").1, &out[..n]);
-    let theirs = Rc::clone(&message);
-    let source = move || kiss::decode(black_box(&theirs));
-    table.add(&name, bytes, bar, source, move || xara::decode(black_box(&message), black_box(&mut out)));
 }
 
 /// Information of the types that are neither Text, Binary nor a position without a time.
 const TYPES: [(&str, &[u8]); 3] = [
-    ("polled time", b"@092345h4903.50N/00723.75E>/A=001234 VARA HF"),
-    ("polled message", b":DL2XYZ-7 :ack12 on the way to the relay"),
-    ("polled third", b"}DL2XYZ>APRS,TCPIP,DL3ABC*:!4903.50N/00723.75E>"),
+    ("time", b"@092345h4903.50N/00723.75E>/A=001234 VARA HF"),
+    ("message", b":DL2XYZ-7 :ack12 on the way to the relay"),
+    ("third", b"}DL2XYZ>APRS,TCPIP,DL3ABC*:!4903.50N/00723.75E>"),
 ];
 
 /// What a frame is: Text, polled or not, and Binary of each size, the other types, eight digipeaters and a long frame. The
@@ -165,7 +196,7 @@ pub fn summaries(table: &mut Table) {
     }
     summary(table, "position", Command::Ax25, position_frame());
     for (kind, information) in TYPES {
-        summary(table, kind, Command::Ax25, polled(frame_with(information)));
+        summary(table, &format!("polled {kind}"), Command::Ax25, polled(frame_with(information)));
     }
     summary(table, "eight digis", Command::Ax25, digipeated_frame(&[*b"K2B   "; 8]));
     summary(table, "long text", Command::Ax25Long, long_frame());

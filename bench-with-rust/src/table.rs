@@ -93,7 +93,7 @@ impl Table {
         format!("{name} {bytes}").contains(&self.pattern)
     }
 
-    /// A pair that gives equal bytes.
+    /// A pair whose bytes were compared before.
     pub fn add<A, B>(
         &mut self,
         name: &str,
@@ -149,10 +149,10 @@ fn pass(row: &mut Row) {
     }
 }
 
-/// Says where the two sides differ, and ends the program.
-pub fn same(name: &str, source: &[u8], ours: &[u8]) {
-    if source != ours {
-        println!("{name}: the two sides differ\nRust {source:02X?}\nours {ours:02X?}");
+/// Says where our bytes are not those expected, and ends the program.
+pub fn same(name: &str, expected: &[u8], ours: &[u8]) {
+    if expected != ours {
+        println!("{name}: the two sides differ\nexpected {expected:02X?}\nours     {ours:02X?}");
         std::process::exit(1);
     }
 }
