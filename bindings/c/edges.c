@@ -1,10 +1,10 @@
 /*
  * Every output length from 0 to one more than the answer's, every refusal's number, frames and fragments of every length, texts
  * with white space and the bytes beside it at their edges, every control byte, every mask with its longest messages and its worked
- * examples, the lengths of fragments, and receiver states that no call leads to. Every field of every answer is looked at, flags
- * as the bytes that they are, and every input for being unchanged. Every buffer has its exact length on the heap, so that
- * valgrind sees a byte read or written beside it. Prints how many calls were held against what is to be expected; the exit status
- * is 1 where one differs.
+ * examples, the lengths of fragments, both readings of WIDE calls in every place, and receiver states that no call leads to. Every
+ * field of every answer is looked at, flags as the bytes that they are, and every input for being unchanged. Every buffer has its
+ * exact length on the heap, so that valgrind sees a byte read or written beside it. Prints how many calls were held against what
+ * is to be expected; the exit status is 1 where one differs.
  */
 #include "xara.h"
 
@@ -140,24 +140,26 @@ static void encode_rooms(uint8_t command, uint8_t type, const uint8_t *data, siz
     free(whole);
 }
 
-/* A message of this command into every room. */
-static void decode_rooms(uint8_t command, const uint8_t *message, size_t n)
+/* The readings of a message: the original one and the mended one. */
+typedef XaraDecoded (*Decode)(const uint8_t *message, size_t message_len, uint8_t *out, size_t out_len);
+#define READINGS 2
+static const Decode readings[READINGS] = {xara_decode, xara_decode_mended};
+
+/* A message is read as data of this command, into every room. */
+static void read_rooms(Decode decode, uint8_t command, const uint8_t *message, size_t n, const uint8_t *data, size_t length)
 {
-    uint8_t *lent = copied(message, n), *whole = filled(XARA_MAX_DECODED);
-    XaraDecoded full = xara_decode(lent, n, whole, XARA_MAX_DECODED);
-    expect(decoded(full, 0, command, full.length) && full.length <= XARA_MAX_DECODED, "decode", n);
-    for (size_t room = 0; room <= full.length + 1; room++) {
+    uint8_t *lent = copied(message, n);
+    for (size_t room = 0; room <= length + 1; room++) {
         uint8_t *out = filled(room);
-        XaraDecoded a = xara_decode(lent, n, out, room);
-        bool fits = room >= full.length;
-        expect(decoded(a, fits ? 0 : XARA_REFUSAL_OUTPUT, fits ? command : 0, fits ? full.length : 0) &&
-                   written(out, room, whole, full.length),
+        XaraDecoded a = decode(lent, n, out, room);
+        bool fits = room >= length;
+        expect(decoded(a, fits ? 0 : XARA_REFUSAL_OUTPUT, fits ? command : 0, fits ? length : 0) &&
+                   written(out, room, data, length),
                "decode", room);
         free(out);
     }
     expect(memcmp(lent, message, n) == 0, "message to decode", n);
     free(lent);
-    free(whole);
 }
 
 /* An answer of so many bytes into room for so many. */
@@ -232,14 +234,15 @@ static void generic_rooms(const uint8_t *any)
         encode_rooms(XARA_GENERIC, XARA_TEXT, any, n);
 }
 
-/* Data coded into every room, its message decoded into every room. Hands back the message's length. */
+/* Data coded into every room, its message decoded into every room in both readings. Hands back the message's length. */
 static size_t both_rooms(uint8_t command, const uint8_t *data, size_t n, uint8_t *message)
 {
     uint8_t *lent = copied(data, n);
     encode_rooms(command, XARA_TEXT, data, n);
     expect(summed_up(xara_summary(command, lent, n), 0, XARA_TEXT, command == XARA_AX25, 0), "summary", n);
     XaraEncoded a = xara_encode(command, lent, n, message, XARA_MAX_MESSAGE);
-    decode_rooms(command, message, a.length);
+    for (size_t r = 0; r < READINGS; r++)
+        read_rooms(readings[r], command, message, a.length, data, n);
     expect(memcmp(lent, data, n) == 0, "data to sum up", n);
     free(lent);
     return a.length;
@@ -282,20 +285,25 @@ static void longest(uint8_t *message)
         at = push(message, at, 3, 7);
 }
 
+/* The mended reading has a byte less: of the call of 9 bits it makes WIDE2-3, the original one WIDE2-11. */
 static void longest_rooms(void)
 {
-    uint8_t *message = filled(XARA_MAX_MESSAGE), *out = filled(XARA_MAX_DECODED), *small = filled(XARA_MAX_DECODED - 1);
+    uint8_t *message = filled(XARA_MAX_MESSAGE);
     longest(message);
     uint8_t *kept = copied(message, XARA_MAX_MESSAGE);
-    XaraDecoded a = xara_decode(message, XARA_MAX_MESSAGE, small, XARA_MAX_DECODED - 1);
-    expect(decoded(a, XARA_REFUSAL_OUTPUT, 0, 0) && untouched(small, XARA_MAX_DECODED - 1), "longest", 0);
-    a = xara_decode(message, XARA_MAX_MESSAGE, out, XARA_MAX_DECODED);
-    expect(decoded(a, 0, XARA_AX25_LONG, XARA_MAX_DECODED), "longest", 1);
+    for (size_t r = 0; r < READINGS; r++) {
+        size_t length = XARA_MAX_DECODED - r;
+        uint8_t *out = filled(length), *small = filled(length - 1);
+        XaraDecoded a = readings[r](message, XARA_MAX_MESSAGE, small, length - 1);
+        expect(decoded(a, XARA_REFUSAL_OUTPUT, 0, 0) && untouched(small, length - 1), "longest", 0);
+        a = readings[r](message, XARA_MAX_MESSAGE, out, length);
+        expect(decoded(a, 0, XARA_AX25_LONG, length), "longest", 1);
+        free(out);
+        free(small);
+    }
     expect(memcmp(message, kept, XARA_MAX_MESSAGE) == 0, "longest", 2);
     free(message);
     free(kept);
-    free(out);
-    free(small);
 }
 
 /* Frames cut short anywhere, to the coder and the summary. */
@@ -397,7 +405,8 @@ static void nothing(void)
 {
     uint8_t *none = filled(0), *out = filled(0);
     expect(xara_crc16_genibus(none, 0) == 0, "crc of nothing", 0);
-    expect(decoded(xara_decode(none, 0, out, 0), XARA_REFUSAL_NOT_DECODED, 0, 0), "decode nothing", 0);
+    for (size_t r = 0; r < READINGS; r++)
+        expect(decoded(readings[r](none, 0, out, 0), XARA_REFUSAL_NOT_DECODED, 0, 0), "decode nothing", r);
     expect(encoded(xara_encode(XARA_GENERIC, none, 0, out, 0), XARA_REFUSAL_OUTPUT, 0, 0), "encode nothing", 0);
     expect(summed_up(xara_summary(XARA_GENERIC, none, 0), 0, XARA_TEXT, 0, 0), "summary of nothing", 0);
     free(none);
@@ -422,21 +431,262 @@ static void command_refusals(void)
     free(out);
 }
 
-/* Data and messages that are too long. */
+/* Data that is too long. */
 static void length_refusals(void)
 {
     size_t n = XARA_MAX_DATA + 1;
-    uint8_t *data = filled(n), *message = filled(XARA_MAX_MESSAGE + 1), *out = filled(XARA_MAX_MESSAGE);
+    uint8_t *data = filled(n), *out = filled(XARA_MAX_MESSAGE);
     for (uint8_t command = XARA_AX25; command <= XARA_GENERIC; command++) {
         expect(encoded(xara_encode(command, data, n, out, XARA_MAX_MESSAGE), XARA_REFUSAL_TOO_LONG, 0, 0), "data", command);
         expect(summed_up(xara_summary(command, data, n), XARA_REFUSAL_TOO_LONG, 0, 0, 0), "summary", command);
     }
-    XaraDecoded a = xara_decode(message, XARA_MAX_MESSAGE + 1, out, XARA_MAX_MESSAGE);
-    expect(decoded(a, XARA_REFUSAL_TOO_LONG, 0, 0), "decode", XARA_MAX_MESSAGE + 1);
-    expect(untouched(data, n) && untouched(message, XARA_MAX_MESSAGE + 1) && untouched(out, XARA_MAX_MESSAGE), "too long", 0);
+    expect(untouched(data, n) && untouched(out, XARA_MAX_MESSAGE), "too long", 0);
     free(data);
+    free(out);
+}
+
+/* A message with this header byte is refused with this in both readings, whatever the room, and nothing is changed. */
+static void not_read(uint8_t header, size_t n, uint8_t refusal)
+{
+    uint8_t *message = filled(n), *out = filled(XARA_MAX_MESSAGE);
+    message[0] = header;
+    for (size_t i = 0; i < 2 * READINGS; i++) {
+        size_t room = i < READINGS ? 0 : XARA_MAX_MESSAGE - 2;
+        expect(decoded(readings[i % READINGS](message, n, out, room), refusal, 0, 0), "message refused", refusal);
+    }
+    expect(message[0] == header && untouched(message + 1, n - 1), "message refused, its bytes", refusal);
+    expect(untouched(out, XARA_MAX_MESSAGE), "message refused, the output", refusal);
     free(message);
     free(out);
+}
+
+/* A message over 5,000 bytes comes first, then one that can't be decoded, then a room that is too short, were it by a byte. */
+static void decoder_refusals(void)
+{
+    static const uint8_t headers[] = {0x20, 0x30, 0x48, 0xFF};
+    for (size_t i = 0; i < sizeof headers; i++)
+        not_read(headers[i], XARA_MAX_MESSAGE + 1, XARA_REFUSAL_TOO_LONG);
+    not_read(0x30, XARA_MAX_MESSAGE, XARA_REFUSAL_NOT_DECODED);
+    not_read(0x30, 1, XARA_REFUSAL_NOT_DECODED);
+    not_read(0x48, 1, XARA_REFUSAL_NOT_DECODED);
+    not_read(0x20, XARA_MAX_MESSAGE, XARA_REFUSAL_OUTPUT);
+}
+
+/*
+ * A report is written as SOURCE>DESTINATION,DIGIPEATERS:INFORMATION, where a digipeater that has repeated it has a star. Here a
+ * call comes to each place of a `?`; with eight blanks after that it is padded to nine letters.
+ */
+static void with_call(char *out, const char *report, const char *call)
+{
+    for (; *report != '\0'; report++) {
+        if (*report != '?') {
+            *out++ = *report;
+            continue;
+        }
+        bool padded = strncmp(report + 1, "        ", 8) == 0;
+        out += sprintf(out, "%-*s", padded ? 9 : 0, call);
+        report += padded ? 8 : 0;
+    }
+    *out = '\0';
+}
+
+/* The address field of a call, for so many letters. Hands back the text after the call. */
+static const char *address(uint8_t *out, const char *call, size_t letters)
+{
+    size_t n = strcspn(call, "-*,>:");
+    for (size_t i = 0; i < letters; i++)
+        out[i] = (uint8_t)((i < n ? call[i] : ' ') << 1);
+    char *rest = (char *)call + n;
+    unsigned long ssid = *rest == '-' ? strtoul(rest + 1, &rest, 10) : 0;
+    out[letters] = (uint8_t)(0x60 | ssid << 1 | (*rest == '*' ? 0x80 : 0));
+    return rest + (*rest == '*');
+}
+
+/* The frame of a report, with control 03 and PID F0, for calls of so many letters. Its length. */
+static size_t frame_of(uint8_t *out, const char *report, size_t letters)
+{
+    size_t n = 2 * (letters + 1);
+    const char *rest = address(out + letters + 1, report, letters);
+    rest = address(out, rest + 1, letters);
+    for (; *rest == ','; n += letters + 1)
+        rest = address(out + n, rest + 1, letters);
+    out[n - 1] |= 0x01;
+    out[n++] = 0x03;
+    out[n++] = 0xF0;
+    memcpy(out + n, rest + 1, strlen(rest + 1));
+    return n + strlen(rest + 1);
+}
+
+/* A report is coded. The length of its message. */
+static size_t message_of(uint8_t *message, const char *report)
+{
+    uint8_t frame[200];
+    size_t n = frame_of(frame, report, 6);
+    uint8_t *lent = copied(frame, n);
+    XaraEncoded a = xara_encode(XARA_AX25, lent, n, message, XARA_MAX_MESSAGE);
+    expect(encoded(a, 0, a.aprs_type, a.length) && memcmp(lent, frame, n) == 0, "report", n);
+    free(lent);
+    return a.length;
+}
+
+/*
+ * A report that was sent is read as another one. Calls of up to five letters have the same bits in a long frame: its header byte
+ * alone is another.
+ */
+static void comes_back(Decode decode, const char *sent, const char *back)
+{
+    uint8_t frame[200], *message = filled(XARA_MAX_MESSAGE);
+    size_t length = message_of(message, sent);
+    for (uint8_t command = XARA_AX25; command <= XARA_AX25_LONG; command++) {
+        message[0] |= (uint8_t)(0x10 * command);
+        size_t n = frame_of(frame, back, 6u + command);
+        read_rooms(decode, command, message, length, frame, n);
+    }
+    free(message);
+}
+
+/* Calls as they are sent and as the original reading hands them back, the first few as others. The mended one changes none. */
+#define MISREAD 4
+static const char *const wide[][2] = {
+    {"WIDE1-2", "WIDE1-10"}, {"WIDE1-3", "WIDE1-11"},  {"WIDE2-2", "WIDE2-10"},  {"WIDE2-3", "WIDE2-11"},
+    {"WIDE1", "WIDE1"},      {"WIDE1-1", "WIDE1-1"},   {"WIDE2", "WIDE2"},       {"WIDE2-1", "WIDE2-1"},
+    {"WIDE2-4", "WIDE2-4"},  {"WIDE1-11", "WIDE1-11"}, {"WIDE2-10", "WIDE2-10"}, {"PNW2-1", "PNW2-1"},
+};
+
+/* A report with each of the calls in its places, in both readings. */
+static void each_call(const char *report)
+{
+    char sent[200], misread[200];
+    for (size_t i = 0; i < sizeof wide / sizeof wide[0]; i++) {
+        with_call(sent, report, wide[i][0]);
+        with_call(misread, report, wide[i][1]);
+        comes_back(xara_decode, sent, misread);
+        comes_back(xara_decode_mended, sent, sent);
+    }
+}
+
+/*
+ * Destination, source, each digipeater, a message's addressee, and the calls of a third party's report. These are not padded: a
+ * room may be enough for the mended answer and too short for the original one. Last a path that is sent as a single number.
+ */
+static void wide_places(void)
+{
+    static const char *const reports[] = {
+        "K1A>?:A",
+        "?>CQ:A",
+        "?>APRS,?*,?:>by WIDE2-2 and WIDE2-10",
+        "K1A>APRS::?        :by WIDE2-2 and WIDE2-10",
+        "K1A>APRS:}?>APRS,TCPIP,K1A*:>hi",
+        "K1A>APRS:}K1A>?,TCPIP,K1A*:>hi",
+        "K1A>APRS:}K1A>APRS,TCPIP,?*:!4903.50N/07201.75W-mast",
+        "?>APRS,?:}?>?,TCPIP,?*::?        :hi",
+    };
+    static const char alias[] = "K1A>APRS,WIDE1-1*,WIDE2-1:>hi";
+    char path[] = "K1A>CQ,ALL,ALL,ALL,ALL,ALL,ALL,ALL,ALL:A", one[sizeof path + 2];
+    for (size_t i = 0; i < sizeof reports / sizeof reports[0]; i++)
+        each_call(reports[i]);
+    for (size_t k = 0; k < 8; k++) {
+        sprintf(one, "%.*s?%s", (int)(7 + 4 * k), path, path + 10 + 4 * k);
+        each_call(one);
+        sprintf(one, "K1A>APRS,%.*s?%s", (int)(4 * k), path + 7, path + 10 + 4 * k);
+        each_call(one);
+    }
+    for (size_t r = 0; r < READINGS; r++)
+        comes_back(readings[r], alias, alias);
+}
+
+/* Worked examples: a report, what the original reading makes of it, and its message. */
+#define EXAMPLES 5
+static const struct {
+    const char *sent, *misread;
+    size_t length;
+    uint8_t message[14];
+} examples[EXAMPLES] = {
+    {"K1A-1>CQ,WIDE2-2:A", "K1A-1>CQ,WIDE2-10:A", 8, {0x48, 0x56, 0x5B, 0x80, 0x80, 0x32, 0xE4, 0x10}},
+    {"K1A>CQ,WIDE1-3,WIDE2-3:A", "K1A>CQ,WIDE1-11,WIDE2-11:A", 9, {0x49, 0x2B, 0x2D, 0xC0, 0x40, 0x09, 0x5C, 0xBD, 0x04}},
+    {"K1A>APRS,WIDE1-1*,WIDE2-2:>hi",
+     "K1A>APRS,WIDE1-1*,WIDE2-10:>hi",
+     14,
+     {0x49, 0xB4, 0x49, 0x30, 0x0B, 0x70, 0x10, 0x01, 0x29, 0x97, 0x07, 0xDA, 0x34, 0x80}},
+    {"K1A>APRS::WIDE2-2  :hi", "K1A>APRS::WIDE2-10 :hi", 11, {0x40, 0xD1, 0x24, 0xC0, 0x2D, 0xC0, 0x40, 0x09, 0x2E, 0xD1, 0xA4}},
+    {"K1A>CQ,WIDE2-10:A", "K1A>CQ,WIDE2-10:A", 12, {0x48, 0x56, 0x5B, 0x80, 0x80, 0x0B, 0x92, 0x20, 0xAE, 0x81, 0x48, 0x20}},
+};
+
+static void wide_examples(void)
+{
+    uint8_t *message = filled(XARA_MAX_MESSAGE);
+    for (size_t i = 0; i < EXAMPLES; i++) {
+        size_t n = message_of(message, examples[i].sent);
+        expect(n == examples[i].length && memcmp(message, examples[i].message, n) == 0, "example's message", i);
+        comes_back(xara_decode, examples[i].sent, examples[i].misread);
+        comes_back(xara_decode_mended, examples[i].sent, examples[i].sent);
+    }
+    free(message);
+}
+
+/* A call that the original reading may hand back in place of another is at the start, as text or as an address field. */
+static bool starts_misread(const uint8_t *bytes, size_t n)
+{
+    for (size_t i = 0; i < MISREAD; i++) {
+        const char *call = wide[i][1];
+        if (n >= strlen(call) && memcmp(bytes, call, strlen(call)) == 0)
+            return true;
+        for (size_t letters = 6; letters <= 7; letters++) {
+            uint8_t field[8];
+            address(field, call, letters);
+            if (n > letters && memcmp(bytes, field, letters) == 0 && (bytes[letters] & 0x1E) == (field[letters] & 0x1E))
+                return true;
+        }
+    }
+    return false;
+}
+
+static bool holds_misread(const uint8_t *bytes, size_t n)
+{
+    for (size_t i = 0; i < n; i++)
+        if (starts_misread(bytes + i, n - i))
+            return true;
+    return false;
+}
+
+/* Both readings refuse a message with the same, or answer alike where the original answer holds none of these calls. */
+static void read_alike(const uint8_t *message, size_t n)
+{
+    size_t room = 500;
+    uint8_t *lent = copied(message, n), *out = filled(room), *other = filled(room);
+    XaraDecoded a = xara_decode(lent, n, out, room), b = xara_decode_mended(lent, n, other, room);
+    bool ok = a.refusal == 0, refused = a.refusal == XARA_REFUSAL_NOT_DECODED && untouched(out, room);
+    expect(decoded(a, a.refusal, ok ? a.command : 0, ok ? a.length : 0) && (ok || refused), "original reading", n);
+    bool may = ok && holds_misread(out, a.length);
+    expect(decoded(b, a.refusal, a.command, may ? b.length : a.length), "mended reading", n);
+    expect(untouched(out + a.length, room - a.length) && untouched(other + b.length, room - b.length), "after both answers", n);
+    expect(may || memcmp(out, other, room) == 0, "both answers", n);
+    expect(memcmp(lent, message, n) == 0, "message of both readings", n);
+    free(lent);
+    free(out);
+    free(other);
+}
+
+/* A message that is cut short anywhere, with every header byte. */
+static void cut_message(const uint8_t *message, size_t length)
+{
+    uint8_t *bytes = copied(message, length);
+    for (unsigned header = 0; header < 256; header++) {
+        bytes[0] = (uint8_t)header;
+        for (size_t n = 1; n <= length; n++)
+            read_alike(bytes, n);
+    }
+    free(bytes);
+}
+
+/* The examples, and a third party's report with WIDE calls in all its places. */
+static void cut_messages(void)
+{
+    uint8_t *message = filled(XARA_MAX_MESSAGE);
+    cut_message(message, message_of(message, "K1A>APRS,WIDE2-2:}WIDE1-2>WIDE2-2,TCPIP,WIDE2-3*::WIDE1-3  :hi"));
+    for (size_t i = 0; i < EXAMPLES; i++)
+        cut_message(examples[i].message, examples[i].length);
+    free(message);
 }
 
 /* A frame is refused with this, before a room that is too short, and nothing is changed. */
@@ -1032,6 +1282,10 @@ int main(void)
     nothing();
     command_refusals();
     length_refusals();
+    decoder_refusals();
+    wide_places();
+    wide_examples();
+    cut_messages();
     white_space();
     form_refusals();
     every_letter();

@@ -9,6 +9,12 @@
  *   data -> xara_encode -> message -> xara_fragment -> fragments -> xara_build_frame -> frames -> the air
  *        -> xara_receiver_push -> message -> xara_decode -> data
  *
+ * A message may be read in two ways, and the receiving side alone chooses: xara_encode and all that goes on the air are the same
+ * for both. The calls WIDE1-2, WIDE1-3, WIDE2-2 and WIDE2-3 are sent in a short form that ends in two bits. xara_decode takes
+ * these for two decimal digits, as the Rust from which this library was ported does, and hands the calls back with the SSIDs 10
+ * and 11: a path WIDE2-2 comes out as WIDE2-10. xara_decode_mended takes them for a binary number and hands the calls back as
+ * they were sent. All else is the same in both readings.
+ *
  * What every call keeps to:
  * - It ends on every input with an answer or with a refusal, whose number is one of enum xara_refusal.
  * - Where it refuses, it changes no lent byte, and a receiver comes back as it was.
@@ -65,8 +71,8 @@ extern "C" {
 
 /* Sizes, in bytes. An output with the most bytes is never refused as too short. */
 #define XARA_MAX_DATA 4999     /* data to code */
-#define XARA_MAX_MESSAGE 5000  /* a message: the output of xara_encode, the input of xara_fragment and xara_decode */
-#define XARA_MAX_DECODED 45764 /* decoded data: the output of xara_decode */
+#define XARA_MAX_MESSAGE 5000  /* a message: the output of xara_encode, the input of xara_fragment and of both readings */
+#define XARA_MAX_DECODED 45764 /* decoded data: the output of xara_decode and of xara_decode_mended */
 #define XARA_STORE 5000        /* a receiver's store: exactly so many */
 #define XARA_MIN_FIELD 3       /* the field: a fragment has at most field bytes */
 #define XARA_MAX_FIELD 512
@@ -271,10 +277,21 @@ XaraEncoded xara_encode(uint8_t command, const uint8_t *data, size_t data_len, u
 XaraSummary xara_summary(uint8_t command, const uint8_t *data, size_t data_len);
 
 /*
- * The data that a message was coded from, to the front of out; answers the command and the data's length.
+ * The data that a message was coded from, to the front of out; answers the command and the data's length, at most
+ * XARA_MAX_DECODED. This is the original reading: WIDE1-2, WIDE1-3, WIDE2-2 and WIDE2-3 come back as WIDE1-10, WIDE1-11, WIDE2-10
+ * and WIDE2-11, which can then not be told from calls that were sent with these SSIDs. xara_decode_mended tells them apart.
  * Refuses with TOO_LONG, NOT_DECODED, OUTPUT, in this order.
  */
 XaraDecoded xara_decode(const uint8_t *message, size_t message_len, uint8_t *out, size_t out_len);
+
+/*
+ * The same in the mended reading: WIDE1-2, WIDE1-3, WIDE2-2 and WIDE2-3 come back as they were sent, wherever a call may stand:
+ * as destination, source or digipeater, as the addressee of a message, and in a third party's report. All other calls come back as
+ * from xara_decode, WIDE1-10, WIDE1-11, WIDE2-10 and WIDE2-11 among them. The sender need not know of the choice.
+ * Refuses with TOO_LONG, NOT_DECODED, OUTPUT, in this order; with the first two exactly where xara_decode does, with OUTPUT by the
+ * length of this answer. The two lengths can differ: in a third party's report WIDE2-2 is a byte shorter than WIDE2-10.
+ */
+XaraDecoded xara_decode_mended(const uint8_t *message, size_t message_len, uint8_t *out, size_t out_len);
 
 /* What a refusal says, for a log. */
 static inline const char *xara_refusal_text(uint8_t refusal)

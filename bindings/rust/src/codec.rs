@@ -41,8 +41,35 @@ pub fn encode<'a>(command: Command, data: &[u8], out: &'a mut [u8]) -> Result<Bu
     Ok(Buffer { bytes: &out[..a.length], aprs_type })
 }
 
-/// Decodes a message into a lent output: the command and the data.
+/// How the calls WIDE1-2, WIDE1-3, WIDE2-2 and WIDE2-3 are read, which are sent in a short form that ends in two bits.
 ///
+/// The receiving side alone chooses: the coder writes the same bits for both, and all other calls are read alike. Both readings
+/// refuse the same messages, but for an output that is shorter than the answer, and [`MAX_DECODED`] bytes are enough for both.
+///
+/// ```
+/// use xara::{Decoder, Reading};
+///
+/// assert_eq!(Reading::default(), Reading::Original);
+///
+/// // K1A-1 to CQ by WIDE2-2, the last address field: its last byte is 61 and twice the SSID.
+/// let message = [0x48, 0x56, 0x5B, 0x80, 0x80, 0x32, 0xE4, 0x10];
+/// let ssid = |reading| Decoder::with_reading(reading).decode(&message).map(|(_, data)| (data[20] - 0x61) / 2);
+/// assert_eq!(ssid(Reading::Original), Ok(10));
+/// assert_eq!(ssid(Reading::Mended), Ok(2));
+/// ```
+#[derive(Clone, Copy, Debug, Default, PartialEq, Eq, Hash)]
+pub enum Reading {
+    /// The two bits are two decimal digits, as in the Rust from which this library was ported: these calls come back as
+    /// WIDE1-10, WIDE1-11, WIDE2-10 and WIDE2-11.
+    #[default]
+    Original,
+    /// The two bits are a binary number: these calls come back as they were sent.
+    Mended,
+}
+
+/// Decodes a message into a lent output, in the original reading: the command and the data.
+///
+/// WIDE1-2, WIDE1-3, WIDE2-2 and WIDE2-3 come back as WIDE1-10, WIDE1-11, WIDE2-10 and WIDE2-11; [`decode_as`] has the choice.
 /// [`MAX_DECODED`] bytes are enough for every message. Refuses with [`Refusal::TooLong`], [`Refusal::NotDecoded`],
 /// [`Refusal::Output`], in this order.
 ///
@@ -55,7 +82,36 @@ pub fn encode<'a>(command: Command, data: &[u8], out: &'a mut [u8]) -> Result<Bu
 /// # Ok::<(), Refusal>(())
 /// ```
 pub fn decode<'a>(message: &[u8], out: &'a mut [u8]) -> Result<(Command, &'a [u8]), Refusal> {
-    let a = raw::xara_decode(message, out);
+    decode_as(Reading::Original, message, out)
+}
+
+/// Decodes a message into a lent output, in this reading: the command and the data.
+///
+/// [`MAX_DECODED`] bytes are enough for every message. Refuses with [`Refusal::TooLong`], [`Refusal::NotDecoded`],
+/// [`Refusal::Output`], in this order; with the first two exactly where the other reading does.
+///
+/// ```
+/// use xara::{Command, Encoder, Reading, Refusal};
+///
+/// // K1A to CQ by WIDE2-3, and the same by WIDE2-11.
+/// let frame = *b"\x86\xA2\x40\x40\x40\x40\x60\x96\x62\x82\x40\x40\x40\x60\xAE\x92\x88\x8A\x64\x40\x67\x03\xF0A";
+/// let mut other = frame;
+/// other[20] = 0x77;
+///
+/// let (mut encoder, mut out) = (Encoder::new(), [0; 24]);
+/// let message = encoder.encode(Command::Ax25, &frame)?;
+/// assert_eq!(xara::decode_as(Reading::Original, &message, &mut out)?, (Command::Ax25, &other[..]));
+/// assert_eq!(xara::decode_as(Reading::Mended, &message, &mut out)?, (Command::Ax25, &frame[..]));
+///
+/// let message = encoder.encode(Command::Ax25, &other)?;
+/// assert_eq!(xara::decode_as(Reading::Mended, &message, &mut out)?, (Command::Ax25, &other[..]));
+/// # Ok::<(), Refusal>(())
+/// ```
+pub fn decode_as<'a>(reading: Reading, message: &[u8], out: &'a mut [u8]) -> Result<(Command, &'a [u8]), Refusal> {
+    let a = match reading {
+        Reading::Original => raw::xara_decode(message, out),
+        Reading::Mended => raw::xara_decode_mended(message, out),
+    };
     told(a.ok, a.refusal, ())?;
     let command = Command::from_byte(a.command).expect("the decoder answers a command that there is");
     Ok((command, &out[..a.length]))
@@ -153,20 +209,37 @@ impl fmt::Debug for Encoder {
 /// ```
 #[derive(Clone)]
 pub struct Decoder {
+    reading: Reading,
     out: Box<[u8]>,
 }
 
 impl Decoder {
-    /// A decoder with its buffer.
+    /// A decoder with its buffer, in the original reading.
     pub fn new() -> Self {
-        Decoder { out: vec![0; MAX_DECODED].into() }
+        Self::with_reading(Reading::Original)
     }
 
-    /// The command and the data that a message was coded from, until the next call.
+    /// A decoder with its buffer, in this reading.
+    ///
+    /// ```
+    /// use xara::{Decoder, Reading};
+    ///
+    /// // From K1A, with WIDE2-2 as the addressee of its information.
+    /// let message = [0x40, 0xD1, 0x24, 0xC0, 0x2D, 0xC0, 0x40, 0x09, 0x2E, 0xD1, 0xA4];
+    /// let mut decoder = Decoder::with_reading(Reading::Mended);
+    /// assert!(decoder.decode(&message)?.1.ends_with(b":WIDE2-2  :hi"));
+    /// assert!(Decoder::new().decode(&message)?.1.ends_with(b":WIDE2-10 :hi"));
+    /// # Ok::<(), xara::Refusal>(())
+    /// ```
+    pub fn with_reading(reading: Reading) -> Self {
+        Decoder { reading, out: vec![0; MAX_DECODED].into() }
+    }
+
+    /// The command and the data that a message was coded from, in the reading of this decoder, until the next call.
     ///
     /// Refuses with [`Refusal::TooLong`], [`Refusal::NotDecoded`], in this order.
     pub fn decode(&mut self, message: &[u8]) -> Result<(Command, &[u8]), Refusal> {
-        decode(message, &mut self.out)
+        decode_as(self.reading, message, &mut self.out)
     }
 }
 
@@ -178,6 +251,6 @@ impl Default for Decoder {
 
 impl fmt::Debug for Decoder {
     fn fmt(&self, f: &mut fmt::Formatter<'_>) -> fmt::Result {
-        f.debug_struct("Decoder").finish_non_exhaustive()
+        f.debug_struct("Decoder").field("reading", &self.reading).finish_non_exhaustive()
     }
 }

@@ -74,10 +74,18 @@
 //! # Ok::<(), xara::Refusal>(())
 //! ```
 //!
+//! # Two readings
+//!
+//! A message may be read in two ways, and the receiving side alone chooses: the coder and all that goes on the air are the same
+//! for both. [`decode`] and [`Decoder::new`] read as the Rust from which this library was ported does, and hand the calls
+//! WIDE1-2, WIDE1-3, WIDE2-2 and WIDE2-3 back with the SSIDs 10 and 11: a path WIDE2-2 comes out as WIDE2-10. [`decode_as`] and
+//! [`Decoder::with_reading`] take a [`Reading`], and [`Reading::Mended`] hands these calls back as they were sent.
+//!
 //! # Buffers
 //!
 //! [`Encoder`], [`Decoder`] and [`Reassembler`] own buffers that are large enough for every answer. The functions [`encode`],
-//! [`decode`], [`fragment`], [`build_frame`] and the calls of [`State`] write to buffers that are lent, and allocate nothing.
+//! [`decode`], [`decode_as`], [`fragment`], [`build_frame`] and the calls of [`State`] write to buffers that are lent, and
+//! allocate nothing.
 #![deny(unsafe_code)]
 #![warn(missing_docs)]
 
@@ -91,7 +99,7 @@ mod sender;
 mod tests;
 mod words;
 
-pub use codec::{Buffer, Decoder, Encoder, Summary, decode, encode, summary};
+pub use codec::{Buffer, Decoder, Encoder, Reading, Summary, decode, decode_as, encode, summary};
 pub use frame::{Control, Frame, Frames, TERMINATOR, build_frame};
 pub use receiver::{Heard, RX_BUFFER, RX_MAX_FRAGMENTS, Reassembler, State};
 pub use refusal::Refusal;
@@ -102,7 +110,7 @@ pub use words::{AprsType, Command, Mask};
 pub const MAX_DATA: usize = 4999;
 /// The most bytes of a message.
 pub const MAX_MESSAGE: usize = 5000;
-/// The most bytes that a message decodes to.
+/// The most bytes that a message decodes to, in both readings.
 pub const MAX_DECODED: usize = 45_764;
 
 /// The CRC-16/GENIBUS of any bytes.

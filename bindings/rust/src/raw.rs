@@ -119,6 +119,7 @@ mod linked {
         pub fn xara_encode(command: u8, data: *const u8, data_len: usize, out: *mut u8, out_len: usize) -> XaraEncoded;
         pub fn xara_summary(command: u8, data: *const u8, data_len: usize) -> XaraSummary;
         pub fn xara_decode(message: *const u8, message_len: usize, out: *mut u8, out_len: usize) -> XaraDecoded;
+        pub fn xara_decode_mended(message: *const u8, message_len: usize, out: *mut u8, out_len: usize) -> XaraDecoded;
     }
 }
 
@@ -168,4 +169,10 @@ pub fn xara_decode(message: &[u8], out: &mut [u8]) -> XaraDecoded {
     let (lent, room) = (out.as_mut_ptr(), out.len());
     // SAFETY: the slices are lent whole, one for reading and one for writing, and do not overlap.
     unsafe { linked::xara_decode(message.as_ptr(), message.len(), lent, room) }
+}
+
+pub fn xara_decode_mended(message: &[u8], out: &mut [u8]) -> XaraDecoded {
+    let (lent, room) = (out.as_mut_ptr(), out.len());
+    // SAFETY: the slices are lent whole, one for reading and one for writing, and do not overlap.
+    unsafe { linked::xara_decode_mended(message.as_ptr(), message.len(), lent, room) }
 }

@@ -1,25 +1,9 @@
 //! Every output length from 0 to one more than the answer, with bytes around it that must stay.
 
-use xara::{Command, Control, Mask, Refusal};
+mod common;
 
-const SENTINEL: u8 = 0xA5;
-const MARGIN: usize = 8;
-
-/// A call that is to write these bytes, with every room up to one more than they take.
-fn rooms(answer: &[u8], call: impl Fn(&mut [u8]) -> Result<Vec<u8>, Refusal>) {
-    for room in 0..=answer.len() + 1 {
-        let mut bytes = vec![SENTINEL; room + 2 * MARGIN];
-        let said = call(&mut bytes[MARGIN..MARGIN + room]);
-        let mut expected = vec![SENTINEL; room + 2 * MARGIN];
-        if room < answer.len() {
-            assert_eq!(said, Err(Refusal::Output), "room for {room}");
-        } else {
-            assert_eq!(said.as_deref(), Ok(answer), "room for {room}");
-            expected[MARGIN..MARGIN + answer.len()].copy_from_slice(answer);
-        }
-        assert_eq!(bytes, expected, "room for {room}");
-    }
-}
+use common::{SENTINEL, packed, rooms};
+use xara::{Command, Control, Mask, Reading, Refusal};
 
 /// Document 01's frame, its message, and what is sent of it at field 5.
 const FRAME: [u8; 17] =
@@ -52,11 +36,12 @@ fn encode_the_longest() {
 
 #[test]
 fn decode() {
-    rooms(&FRAME, |out| xara::decode(&MESSAGE, out).map(|(_, data)| data.to_vec()));
-    rooms(b"", |out| xara::decode(&[0x21], out).map(|(_, data)| data.to_vec()));
     let long: Vec<u8> = (0..300).map(|i| i as u8).collect();
     let message = [&[0x20], &long[..]].concat();
-    rooms(&long, |out| xara::decode(&message, out).map(|(_, data)| data.to_vec()));
+    for (data, message) in [(&FRAME[..], &MESSAGE[..]), (b"", &[0x21]), (&long, &message)] {
+        rooms(data, |out| xara::decode(message, out).map(|(_, data)| data.to_vec()));
+        rooms(data, |out| xara::decode_as(Reading::Mended, message, out).map(|(_, data)| data.to_vec()));
+    }
 }
 
 #[test]
@@ -76,23 +61,25 @@ fn build_frame() {
     }
 }
 
-/// The most that a message decodes to fits.
+/// The most that a message decodes to fits. In the mended reading this message decodes to a byte less: it has a call WIDE2-3,
+/// which the original reading takes for WIDE2-11.
 #[test]
 fn decode_the_longest() {
     let message = longest();
     assert_eq!(message.len(), xara::MAX_MESSAGE);
-    let mut out = vec![SENTINEL; xara::MAX_DECODED + 1];
-    let short = xara::decode(&message, &mut out[..xara::MAX_DECODED - 1]);
-    assert_eq!(short, Err(Refusal::Output));
-    assert_eq!(out, vec![SENTINEL; xara::MAX_DECODED + 1]);
-    let (command, data) = xara::decode(&message, &mut out).expect("the message is decoded");
-    assert_eq!((command, data.len()), (Command::Ax25Long, xara::MAX_DECODED));
-    assert_eq!(out[xara::MAX_DECODED], SENTINEL);
-    assert_eq!(xara::Decoder::new().decode(&message).map(|(_, data)| data.len()), Ok(xara::MAX_DECODED));
+    for (reading, length) in [(Reading::Original, xara::MAX_DECODED), (Reading::Mended, xara::MAX_DECODED - 1)] {
+        let mut out = vec![SENTINEL; length + 1];
+        assert_eq!(xara::decode_as(reading, &message, &mut out[..length - 1]), Err(Refusal::Output));
+        assert_eq!(out, vec![SENTINEL; length + 1]);
+        let (command, data) = xara::decode_as(reading, &message, &mut out).expect("the message is decoded");
+        assert_eq!((command, data.len()), (Command::Ax25Long, length));
+        assert_eq!(out[length], SENTINEL);
+        assert_eq!(xara::Decoder::with_reading(reading).decode(&message), Ok((command, &out[..length])));
+    }
 }
 
 /// A third party's message whose text is the longest word of the dictionary again and again, after calls that take 6 bits each,
-/// but for one of 9 bits, WIDE2-11: with it a single bit is left over.
+/// but for one of 9 bits, WIDE2-3: with it a single bit is left over.
 fn longest() -> Vec<u8> {
     let (call, wide) = ("101111", "100101111");
     let addresses = format!("{:08b}{call}{call}1001", 0);
@@ -100,8 +87,6 @@ fn longest() -> Vec<u8> {
     while bits.len() + 7 <= 8 * (xara::MAX_MESSAGE - 1) {
         bits += "0000011";
     }
-    let bits = format!("{bits:0<width$}", width = 8 * (xara::MAX_MESSAGE - 1));
-    let bytes = bits.as_bytes().chunks(8).map(|byte| byte.iter().fold(0, |v, bit| v << 1 | (bit - b'0')));
     // a long frame with eight digipeaters, control 03 and PID F0
-    [0x5F].into_iter().chain(bytes).collect()
+    packed(0x5F, &bits)
 }
