@@ -248,7 +248,6 @@ mod tests {
             assert_eq!(original.as_ref().map(|(command, _)| command), mended.as_ref().map(|(command, _)| command));
             *seen.entry((original.map(|(command, _)| command), differ)).or_insert(0) += 1;
         }
-        println!("{seen:?}");
         for met in [(Ok(0), false), (Ok(0), true), (Ok(1), false), (Ok(1), true), (Err(7), false)] {
             assert!(seen[&met] > 500, "{met:?}");
         }

@@ -1,10 +1,11 @@
 -- Document 01's examples of tokens and one of each path, tokens under both readings (02, E5), and letter codes (02, E2), computed.
 -- Assumes nothing.
-use mathlib.Core.Path.{_≡_, refl}
+use mathlib.Core.Path.{_≡_, refl, sym, ap, _∙_}
 use mathlib.Core.Bool.{Bool, true, false, _&&_}
-use mathlib.Core.List.{List, [], _∷_, map}
-use mathlib.Core.Option.{Option, none, some}
+use mathlib.Core.List.{List, [], _∷_, _++_, map}
+use mathlib.Core.Option.{Option, none, some, Option·some-injective}
 use Prim.Native.Nat.{ℕ}
+use native.Mathlib.Omega.{arith}
 use Prim.Native.String.{String}
 use lib.Dec.{eqb}
 use lib.ListN.{getD}
@@ -13,9 +14,11 @@ use Rattle.laws.specs.Pick.{pick}
 use Rattle.laws.specs.Text.{ascii, between, upper, same, isOneOf, starts, later, position}
 use Rattle.bits.specs.Read.{letter, takeBits, takeText}
 use Rattle.bits.specs.Val.{stops, nextVal, valFrom, valOf}
+use Rattle.bits.proofs.ReadLaws.{take-bits}
 use Rattle.ax25_token.specs.Tables.{callAlphabet, long, symOf, alphaOf, letterCodes, entryCode, wideTokens, wideRow, pairRows, pairTexts, fixedRows, numberedRows}
 use Rattle.ax25_token.specs.Token.{hyphened, baseOf, behind, numberAt, twoDigits, decimal, suffix, pairBits, pairsBits, fixedBits, takes, numberedBits, spell, ending, plainAp, apBits, spelledBits, orElse, tokenBits, after, pairForm, fixedForm, numberedForm, symbolForm, formOf, wideNumber, readPair, readNumber, letterOf, goOn, readLetters, readSpelled, readForm, readToken}
 use Rattle.ax25_token.proofs.Alphabet.{sameCode}
+use Rattle.ax25_token.proofs.TokenBack.{token-same}
 
 -- ---- a byte and its letter code, or none; an entry of the table and the code that it stands for, or none
 
@@ -128,3 +131,12 @@ readBoth =
 examples : (codes coded ≡ true) × (reads false read ≡ true) × (readsBoth readBoth ≡ true)
 unfolding codes codesAs coded reads readsAs read readsBoth readBoth odd num bitsOf valueOf pick between upper same isOneOf starts later position takeBits takeText stops nextVal valFrom valOf callAlphabet long symOf alphaOf wideTokens wideRow pairRows pairTexts fixedRows numberedRows hyphened baseOf behind numberAt twoDigits decimal suffix pairBits pairsBits fixedBits takes numberedBits spell ending plainAp apBits spelledBits orElse tokenBits after pairForm fixedForm numberedForm symbolForm formOf wideNumber readPair readNumber letterOf goOn readLetters readSpelled readForm readToken
 examples = (refl, refl, refl)
+
+-- ---- a token whose index is not that of WIDE, whatever follows: `token-same` at CQ
+
+cq-same : (l : ℕ) (rest : List Bool) → readToken true l (bitsOf 6 43 ++ rest) ≡ readToken false l (bitsOf 6 43 ++ rest)
+cq-same l rest =
+    token-same l (bitsOf 6 43 ++ rest)
+    (λ r e.
+    let is : 43 ≡ 37 = ap (λ (p : ℕ × List Bool). p .0) (Option·some-injective (43, rest) (37, r) (sym (take-bits 6 43 rest) ∙ e)) in
+    absurd (omega (arith, is)))
