@@ -137,7 +137,7 @@ module _ {mended : Bool} (m : ℕ) where
   all-lines no-message = refl
   all-lines (message-then c r) = ap₂ {A = List Line} {B = List Line} (λ a b. a ++ b) (message-lines m c) (all-lines r)
 
-  all-accepted : {xs : List Sending} {ps : List Line} → Messages mended m xs ps → AllAccepted m xs
+  pub all-accepted : {xs : List Sending} {ps : List Line} → Messages mended m xs ps → AllAccepted m xs
   all-accepted no-message = tt
   all-accepted (message-then c r) = (message-accepted m c, all-accepted r)
 
@@ -155,12 +155,12 @@ run-append t (c ∷ a) b = ap {B = List (Option Heard)} (λ l. stepOf t c .answe
 claim : (mended : Bool) (m : ℕ) → maskOk m ≡ true → (store : List ℕ) → length store ≡ 5000 → Claim mended m (freshOf m) store
 claim mended m ok store size =
     record {
-      forgets = λ stores sizes cs. forget m ok store size stores sizes cs;
-      delivers = λ before q xs ps ms ls x.
+      forgets = λ stores sizes cs few. forget m ok store size stores sizes cs few;
+      delivers = λ before q xs ps ms ls x few.
           let y : Mixed (allLines m xs) ls = subst (λ (z : List Line). Mixed z ls) (all-lines m ms) x in
           record {
             answered = run-append (state (freshOf m) store) before (calls ls)
-                ∙ ap (λ (l : List (Option Heard)). runOf (state (freshOf m) store) before ++ l) (deliver m ok store size before q xs (all-accepted m ms) ls y);
+                ∙ ap (λ (l : List (Option Heard)). runOf (state (freshOf m) store) before ++ l) (deliver m ok store size before q xs (all-accepted m ms) ls y few);
             handed-out = delivered m xs ls y;
             whole = all-whole m ms;
           };

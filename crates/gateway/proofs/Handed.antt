@@ -4,10 +4,11 @@ use mathlib.Core.Path.{_≡_, refl, sym, ap, _∙_}
 use mathlib.Core.Bool.{Bool, true, false}
 use mathlib.Core.List.{List, [], _∷_, _++_}
 use mathlib.Core.Option.{Option, none, some}
-use Prim.Native.Nat.{ℕ, zero, suc, _≤_}
+use Prim.Native.Nat.{ℕ, zero, suc, _+_, _≤_}
 use native.Mathlib.Nat.{not-suc-le-zero}
 use native.Mathlib.Omega.{arith}
 use lib.ListN.{length}
+use lib.Dec.{eqb}
 use borrow.Author.Tests.{ne-eqb}
 use Rattle.laws.specs.Pick.{pick}
 use Rattle.refusals.specs.Limits.{fieldOk}
@@ -15,6 +16,7 @@ use Rattle.refusals.specs.Outcome.{answer}
 use Rattle.refusals.proofs.OutcomeLaws.{same-answer}
 use Rattle.sender.proofs.CountLaws.{count-pos}
 use Rattle.receiver.specs.Join.{Heard, refused, dropped, more, done}
+use Rattle.receiver.specs.declared.Cause.the-variants.{WrongLength, NoFragment}
 use Rattle.ax25.specs.Encode.{Coded}
 use Rattle.kiss.specs.Codec.{decodeOf}
 use Rattle.kiss.proofs.CodeBounds.{code-short}
@@ -47,7 +49,7 @@ handed-idle : (c : Call) (rest : List (Option Heard)) → handed (idleAnswer c �
 unfolding pick
 handed-idle (push f k) rest = cases (fieldOk k)
   where
-    cases : (o : Bool) → handed (some (pick o dropped (refused 8)) ∷ rest) ≡ handed rest
+    cases : (o : Bool) → handed (some (pick o (dropped (pick (eqb (length f) (k + 3)) NoFragment WrongLength)) (refused 8)) ∷ rest) ≡ handed rest
     cases true = refl
     cases false = refl
 handed-idle (join f n) rest = refl
@@ -55,7 +57,7 @@ handed-idle reset rest = refl
 
 handed-first : (a : Option Heard) (s t : List (Option Heard)) → handed s ≡ handed t → handed (a ∷ s) ≡ handed (a ∷ t)
 handed-first (some (refused n)) s t e = e
-handed-first (some dropped) s t e = e
+handed-first (some (dropped c)) s t e = e
 handed-first (some more) s t e = e
 handed-first (some (done n b)) s t e = ap (λ (r : List (List ℕ)). b ∷ r) e
 handed-first none s t e = e

@@ -7,9 +7,9 @@ use mathlib.Core.Path.{_≡_, refl, ap, subst}
 use mathlib.Core.Bool.{Bool, true, false}
 use mathlib.Core.List.{List, [], _∷_, _++_}
 use mathlib.Core.Option.{some}
-use Prim.Native.Nat.{ℕ, zero, suc, _+_, _≤_, _<_}
+use Prim.Native.Nat.{ℕ, zero, suc, _+_, _*_, _^_, _≤_, _<_}
 use native.Mathlib.Omega.{arith}
-use lib.ListN.{length, replicate, length-replicate, getD-replicate}
+use lib.ListN.{length, replicate, length-append, length-replicate, getD-replicate}
 use borrow.Author.Tests.{le-ltb}
 use Rattle.laws.specs.Bits.{Bytes}
 use Rattle.laws.specs.Pick.{pick}
@@ -20,7 +20,7 @@ use Rattle.refusals.proofs.LimitLaws.{field-low, mask-top}
 use Rattle.refusals.proofs.OutcomeLaws.{accepted-is}
 use Rattle.sender.specs.Send.{ceiling, countOf, fragmentOf, mostOf}
 use Rattle.sender.proofs.CountLaws.{count-pos, count-within}
-use Rattle.sender.proofs.MaskLaws.{most-three}
+use Rattle.sender.proofs.MaskLaws.{most-three, most-few}
 use Rattle.sender.proofs.SendLaws.{Sendable, send-past, send-answer, send-accepted, fragment-single, fragment-first, fragment-suc}
 use Rattle.sender.proofs.SplitLaws.{fragment-fits}
 use Rattle.frame.specs.Frame.{frameOf}
@@ -37,13 +37,13 @@ use Rattle.kiss.proofs.CodecBack.{codec-back}
 use Rattle.ax25.specs.Plain.{Plain}
 use Rattle.ax25.proofs.PlainLaws.{plain-both}
 use Rattle.ax25.proofs.Examples.{plain-text, plain-binary, plain-position, plain-timestamped, plain-message, plain-wide, plain-wide-message}
-use Rattle.gateway.specs.Run.{Call, push, join, reset, state, runOf, freshly}
+use Rattle.gateway.specs.Run.{Call, push, join, reset, state, runOf, offers, Few, freshly}
 use Rattle.gateway.specs.Script.{Sending, Line, line, calls, answers, Mixed, finished, still, next, idleAnswer}
 use Rattle.gateway.specs.Source.{CodedFrom}
 use Rattle.gateway.specs.Demand.{answerBefore, Frames, no-fragment, fragment-then, Message, Messages, no-message, message-then, Delivered, Claim}
-use Rattle.gateway.proofs.Demand.{demand-3}
-use Rattle.gateway.proofs.Handed.{lines-from}
-use Rattle.gateway.proofs.Lines.{countIn, Accepted, linesFrom, linesOf, allLines}
+use Rattle.gateway.proofs.Demand.{all-accepted, demand-3}
+use Rattle.gateway.proofs.Handed.{lines-from, lines-length}
+use Rattle.gateway.proofs.Lines.{countIn, Accepted, AllAccepted, linesFrom, linesOf, allLines}
 
 -- ---- every message that sender and frame accept has its frames
 
@@ -250,6 +250,45 @@ unfolding with-idle
 idle-mixed [] = idles-mixed finished
 idle-mixed (p ∷ ps) = idles-mixed (next p (idle-mixed ps))
 
+-- ---- fewer than 2^64 pushes and joins
+
+offers-first : (c : Call) (cs : List Call) → offers (c ∷ cs) ≤ suc (offers cs)
+unfolding offers
+offers-first (push f k) cs = omega arith
+offers-first (join f n) cs = omega arith
+offers-first reset cs = omega arith
+
+offers-calls : (ls : List Line) → offers (calls ls) ≤ length ls
+offers-calls [] = unfold offers in omega arith
+offers-calls (l ∷ ls) = omega (arith, offers-first (l .call) (calls ls), offers-calls ls)
+
+idle-length : (ps : List Line) → length (with-idle ps) ≡ 5 + 6 * length ps
+unfolding with-idle
+idle-length [] = refl
+idle-length (p ∷ ps) = omega (arith, idle-length ps)
+
+-- no mask has room for more than 129 fragments of a message
+lines-few : (m : ℕ) (xs : List Sending) → AllAccepted m xs → length (allLines m xs) ≤ 129 * length xs
+unfolding allLines
+lines-few m [] a = omega arith
+lines-few m (x ∷ xs) (a, r) =
+    let able = send-accepted (x .message) (x .field) m (a .sent) in
+    omega (arith, length-append (linesOf m x) (allLines m xs), lines-length m x, able .room, most-few m (mask-top m (able .mask-ok)), lines-few m xs r)
+
+-- two calls, then the frames of 2^50 messages with idle calls before, between and after
+few-after : {mended : Bool} {m : ℕ} {xs : List Sending} → Messages mended m xs (allLines m xs) → length xs ≤ 2 ^ 50
+    → (c d : Call) → Few (c ∷ d ∷ calls (with-idle (allLines m xs)))
+few-after {m = m} {xs = xs} ms n c d =
+    let ls = with-idle (allLines m xs) in
+    omega (
+      arith,
+      offers-first c (d ∷ calls ls),
+      offers-first d (calls ls),
+      offers-calls ls,
+      idle-length (allLines m xs),
+      lines-few m xs (all-accepted m ms),
+    )
+
 -- ---- demand 3 applied
 
 -- a message that is cut off, then a reset; and one that ends with a fragment below 80
@@ -300,23 +339,23 @@ module _ (mended : Bool) {m field : ℕ} (a : Ample m field) where
       (message-then (report-message a (either plain-message) (omega arith)) no-message)))))
 
 -- any list of messages, after a message that was cut off and a reset, with idle calls before, between and after all frames
-module _ {mended : Bool} {m field : ℕ} (a : Ample m field) {xs : List Sending} (ms : Messages mended m xs (allLines m xs)) where
+module _ {mended : Bool} {m field : ℕ} (a : Ample m field) {xs : List Sending} (ms : Messages mended m xs (allLines m xs)) (n : length xs ≤ 2 ^ 50) where
   abbrev pub Heard-after : Type 0
   Heard-after = Delivered ms (freshOf m) zeros cut-off (with-idle (allLines m xs))
 
   pub heard-after : Heard-after
-  heard-after = claimed mended m (a .mask-ok) .delivers cut-off refl xs (allLines m xs) ms (with-idle (allLines m xs)) (idle-mixed (allLines m xs))
+  heard-after = claimed mended m (a .mask-ok) .delivers cut-off refl xs (allLines m xs) ms (with-idle (allLines m xs)) (idle-mixed (allLines m xs)) (few-after ms n _ _)
 
   -- the first part of the claim, on the same list, with stores of zeros
   pub forgotten : runOf (state (freshOf m) zeros) (cut-off ++ calls (with-idle (allLines m xs)))
       ≡ freshly (freshOf m) (λ past. zeros) [] (cut-off ++ calls (with-idle (allLines m xs)))
-  forgotten = claimed mended m (a .mask-ok) .forgets (λ past. zeros) (λ past. zeros-size) (cut-off ++ calls (with-idle (allLines m xs)))
+  forgotten = claimed mended m (a .mask-ok) .forgets (λ past. zeros) (λ past. zeros-size) (cut-off ++ calls (with-idle (allLines m xs))) (few-after ms n _ _)
 
-pub heard-f0 : (mended : Bool) → Heard-after ample-f0 (all-kinds mended ample-f0)
-heard-f0 mended = heard-after ample-f0 (all-kinds mended ample-f0)
+pub heard-f0 : (mended : Bool) → Heard-after ample-f0 (all-kinds mended ample-f0) (omega arith)
+heard-f0 mended = heard-after ample-f0 (all-kinds mended ample-f0) (omega arith)
 
-pub heard-80 : (mended : Bool) → Heard-after ample-80 (all-kinds mended ample-80)
-heard-80 mended = heard-after ample-80 (all-kinds mended ample-80)
+pub heard-80 : (mended : Bool) → Heard-after ample-80 (all-kinds mended ample-80) (omega arith)
+heard-80 mended = heard-after ample-80 (all-kinds mended ample-80) (omega arith)
 
 -- under the mended reading, with WIDE2-2 as a digipeater and as an addressee before those six
 module _ {m field : ℕ} (a : Ample m field) where
@@ -329,8 +368,8 @@ module _ {m field : ℕ} (a : Ample m field) where
       message-then (report-message a (plain plain-wide) (omega arith))
       (message-then (report-message a (plain plain-wide-message) (omega arith)) (all-kinds true a))
 
-pub heard-mended : Heard-after ample-f0 (all-mended ample-f0)
-heard-mended = heard-after ample-f0 (all-mended ample-f0)
+pub heard-mended : Heard-after ample-f0 (all-mended ample-f0) (omega arith)
+heard-mended = heard-after ample-f0 (all-mended ample-f0) (omega arith)
 
 -- one message alone
 pub alone : {mended : Bool} {m : ℕ} (x : Sending) → Message mended m x (linesOf m x) → Messages mended m (x ∷ []) (allLines m (x ∷ []))
@@ -341,8 +380,10 @@ alone x message = message-then message no-message
 pub heard-three : (mended : Bool) (m : ℕ) (ok : maskOk m ≡ true) → Delivered (alone {mended = mended} three (three-message m ok)) (freshOf m) zeros low-end (with-idle (allLines m (three ∷ [])))
 heard-three mended m ok =
     claimed mended m ok .delivers low-end refl (three ∷ []) (allLines m (three ∷ [])) (alone three (three-message m ok)) (with-idle (allLines m (three ∷ []))) (idle-mixed (allLines m (three ∷ [])))
+    (few-after (alone {mended = mended} three (three-message m ok)) (omega arith) _ _)
 
 -- with one check bit, in 129 fragments
 pub heard-many : (mended : Bool) → Delivered (alone {mended = mended} many many-message) (freshOf 0x80) zeros low-end (with-idle (allLines 0x80 (many ∷ [])))
 heard-many mended =
     claimed mended 0x80 (ample-80 .mask-ok) .delivers low-end refl (many ∷ []) (allLines 0x80 (many ∷ [])) (alone many many-message) (with-idle (allLines 0x80 (many ∷ []))) (idle-mixed (allLines 0x80 (many ∷ [])))
+    (few-after (alone {mended = mended} many many-message) (omega arith) _ _)

@@ -1,4 +1,6 @@
+pub mod Bare
 pub mod CheckByte
+pub mod Conserved
 pub mod Deliver
 pub mod Demand
 pub mod Edges
@@ -7,7 +9,9 @@ pub mod FrameHeard
 pub mod Handed
 pub mod Idle
 pub mod Instances
+pub mod Lift
 pub mod Lines
+pub mod LossEdges
 pub mod Messages
 pub mod Sim
 pub mod Since

@@ -14,7 +14,9 @@ use Rattle.crc.specs.Crc.{crcBits}
 use Rattle.refusals.specs.Limits.{fieldOk}
 use Rattle.receiver.specs.Join.{Heard, refused, dropped, more, done}
 use Rattle.receiver.specs.Push.{fragmentLength}
-use Rattle.gateway.specs.Run.{Call, push, join, reset, State}
+use Rattle.receiver.specs.declared.Cause.the-variants.{WrongLength, NoFragment, Overflow, Limit, Check}
+use Rattle.gateway.specs.Run.{Call, push, join, reset}
+use Rattle.gateway.proofs.Bare.{Bare}
 
 -- nothing held; in overflow; or bytes, how many fragments, and the check byte
 pub data Held : Type 0 where
@@ -30,7 +32,7 @@ abbrev pub out : Heard → Held → Out
 out a h = record { answer = some a; next = h }
 
 -- the view of a receiver and its store
-unfoldable pub view : State → Held
+unfoldable pub view : Bare → Held
 view t =
     pick (t .receiver .overflow) over
     (pick (eqb (t .receiver .held) 0) empty
@@ -39,34 +41,34 @@ view t =
 module _ (m : ℕ) where
   -- a message is complete, of k fragments
   unfoldable pub endV : List ℕ → ℕ → ℕ → Heard
-  endV msg k c = pick (ltb k 2) (done (length msg) msg) (pick (eqb (crcBits msg m) (bitAnd c m)) (done (length msg) msg) dropped)
+  endV msg k c = pick (ltb k 2) (done (length msg) msg) (pick (eqb (crcBits msg m) (bitAnd c m)) (done (length msg) msg) (dropped Check))
 
   -- a tail goes after buf
   unfoldable pub growV : List ℕ → ℕ → ℕ → ℕ → List ℕ → Out
   growV buf k c b t =
       pick (leb 255 k || ltb 5000 (length buf + length t))
-      (out dropped (pick (leb 0x80 b) over empty))
+      (out (dropped Limit) (pick (leb 0x80 b) over empty))
       (pick (leb 0x80 b)
       (out more (part (buf ++ t) (k + 1) c))
       (out (endV (set (buf ++ t) 0 b) (k + 1) c) empty))
 
   unfoldable pub acceptV : Held → List ℕ → ℕ → Out
-  acceptV over f n = out dropped (pick (leb 0x80 (getD f 0 0)) over empty)
+  acceptV over f n = out (dropped Overflow) (pick (leb 0x80 (getD f 0 0)) over empty)
   acceptV empty f n =
       pick (leb 0x80 (getD f 0 0))
       (pick (ltb (length f) 2)
-      (out dropped empty)
+      (out (dropped NoFragment) empty)
       (growV (getD f 0 0 ∷ []) 0 (getD f 1 0) (getD f 0 0) (take (n - 2) (drop 2 f))))
       (growV (getD f 0 0 ∷ []) 0 0 (getD f 0 0) (take (n - 1) (drop 1 f)))
   acceptV (part buf k c) f n = growV buf k c (getD f 0 0) (take (n - 1) (drop 1 f))
 
   unfoldable pub joinV : Held → List ℕ → ℕ → Out
-  joinV h f n = pick (eqb n 0 || ltb (length f) n) (out dropped h) (acceptV h f n)
+  joinV h f n = pick (eqb n 0 || ltb (length f) n) (out (dropped NoFragment) h) (acceptV h f n)
 
   unfoldable pub stepV : Held → Call → Out
   stepV h (push f field) =
       pick (not (fieldOk field)) (out (refused 8) h)
-      (pick (not (eqb (length f) (field + 3))) (out dropped h)
+      (pick (not (eqb (length f) (field + 3))) (out (dropped WrongLength) h)
       (joinV h f (fragmentLength f field)))
   stepV h (join f n) = joinV h f n
   stepV h reset = record { answer = none; next = empty }
@@ -82,7 +84,7 @@ module _ (m : ℕ) where
 
 -- ---- the cases
 
-module _ (t : State) where
+module _ (t : Bare) where
   pub view-over : t .receiver .overflow ≡ true → view t ≡ over
   unfolding view pick
   view-over o = simp o
@@ -106,16 +108,16 @@ module _ (m : ℕ) where
     unfolding endV pick
     end-good h e = simp (le-ltb _ _ h, eq-eqb _ _ e)
 
-    pub end-bad : 2 ≤ k → (crcBits msg m ≡ bitAnd c m → ⊥) → endV m msg k c ≡ dropped
+    pub end-bad : 2 ≤ k → (crcBits msg m ≡ bitAnd c m → ⊥) → endV m msg k c ≡ dropped Check
     unfolding endV pick
     end-bad h e = simp (le-ltb _ _ h, ne-eqb _ _ e)
 
   module _ (buf : List ℕ) (k c b : ℕ) (t : List ℕ) where
-    pub growV-many : 255 ≤ k → growV m buf k c b t ≡ out dropped (pick (leb 0x80 b) over empty)
+    pub growV-many : 255 ≤ k → growV m buf k c b t ≡ out (dropped Limit) (pick (leb 0x80 b) over empty)
     unfolding growV pick
     growV-many h = simp (le-leb _ _ h)
 
-    pub growV-long : k < 255 → 5000 < length buf + length t → growV m buf k c b t ≡ out dropped (pick (leb 0x80 b) over empty)
+    pub growV-long : k < 255 → 5000 < length buf + length t → growV m buf k c b t ≡ out (dropped Limit) (pick (leb 0x80 b) over empty)
     unfolding growV pick
     growV-long h l = simp (lt-leb _ _ h, lt-ltb _ _ l)
 
@@ -133,7 +135,7 @@ module _ (m : ℕ) where
   growV-single b c t h = simp (lt-leb _ _ h)
 
   module _ (f : List ℕ) (n : ℕ) where
-    pub acceptV-short : 0x80 ≤ getD f 0 0 → length f < 2 → acceptV m empty f n ≡ out dropped empty
+    pub acceptV-short : 0x80 ≤ getD f 0 0 → length f < 2 → acceptV m empty f n ≡ out (dropped NoFragment) empty
     unfolding acceptV pick
     acceptV-short h l = simp (le-leb _ _ h, lt-ltb _ _ l)
 
@@ -146,7 +148,7 @@ module _ (m : ℕ) where
     unfolding acceptV pick
     acceptV-only h = simp (lt-leb _ _ h)
 
-    pub acceptV-over : acceptV m over f n ≡ out dropped (pick (leb 0x80 (getD f 0 0)) over empty)
+    pub acceptV-over : acceptV m over f n ≡ out (dropped Overflow) (pick (leb 0x80 (getD f 0 0)) over empty)
     unfolding acceptV
     acceptV-over = refl
 
@@ -155,11 +157,11 @@ module _ (m : ℕ) where
     acceptV-next buf k c = refl
 
   module _ (h : Held) (f : List ℕ) where
-    pub joinV-empty : (n : ℕ) → n ≡ 0 → joinV m h f n ≡ out dropped h
+    pub joinV-empty : (n : ℕ) → n ≡ 0 → joinV m h f n ≡ out (dropped NoFragment) h
     unfolding joinV pick
     joinV-empty n e = simp (eq-eqb _ _ e)
 
-    pub joinV-past : (n : ℕ) → (n ≡ 0 → ⊥) → length f < n → joinV m h f n ≡ out dropped h
+    pub joinV-past : (n : ℕ) → (n ≡ 0 → ⊥) → length f < n → joinV m h f n ≡ out (dropped NoFragment) h
     unfolding joinV pick
     joinV-past n e l = simp (ne-eqb _ _ e, lt-ltb _ _ l)
 
@@ -171,7 +173,7 @@ module _ (m : ℕ) where
     unfolding stepV pick
     pushV-field field e = simp e
 
-    pub pushV-length : (field : ℕ) → fieldOk field ≡ true → (length f ≡ field + 3 → ⊥) → stepV m h (push f field) ≡ out dropped h
+    pub pushV-length : (field : ℕ) → fieldOk field ≡ true → (length f ≡ field + 3 → ⊥) → stepV m h (push f field) ≡ out (dropped WrongLength) h
     unfolding stepV pick
     pushV-length field e l = simp (e, ne-eqb _ _ l)
 

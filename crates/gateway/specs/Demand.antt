@@ -1,5 +1,6 @@
 -- Demand 3: one claim about one list of calls on a new receiver and its store. Sentences in quotes are demand 3's, and document 01's in "The
--- list of demand 3". The decoder's reading is a parameter: false is the original one, true the mended one of document 02, E5.
+-- list of demand 3". The decoder's reading is a parameter: false is the original one, true the mended one of document 02, E5. "Demand 3 compares
+-- answers and not tallies, for lists of fewer than 2^64 pushes and joins in all, those before the ending included" (02, E12).
 -- Assumes nothing.
 use mathlib.Core.Path.{_≡_}
 use mathlib.Core.Bool.{Bool, true}
@@ -17,7 +18,7 @@ use Rattle.receiver.specs.New.{newOf}
 use Rattle.receiver.specs.declared.Reassembler.{Reassembler}
 use Rattle.kiss.specs.Codec.{decodeOf}
 use Rattle.kiss.specs.Told.{decodeInto}
-use Rattle.gateway.specs.Run.{Call, push, state, runOf, freshly}
+use Rattle.gateway.specs.Run.{Call, push, state, runOf, Few, freshly}
 use Rattle.gateway.specs.Script.{Sending, Line, line, calls, answers, Mixed, settled}
 use Rattle.gateway.specs.Source.{CodedFrom, handed, messagesOf}
 
@@ -102,10 +103,11 @@ pub record Claim (mended : Bool) (mask : ℕ) (r : Reassembler) (store : List �
   -- same call after only the calls since the last ending before it, or since the start." The fresh receiver "has the same mask and 5,000
   -- store bytes of its own, whatever they hold": for each call another store, chosen by the calls before it.
   pub forgets : (stores : List Call → List ℕ) → ((past : List Call) → length (stores past) ≡ 5000)
-      → (cs : List Call) → runOf (state r store) cs ≡ freshly r stores [] cs
+      → (cs : List Call) → Few cs → runOf (state r store) cs ≡ freshly r stores [] cs
   -- "Now let the list be empty or stop with an ending, and let any list of messages follow", with idle calls anywhere between.
   pub delivers : (before : List Call) → settled before ≡ true
       → (xs : List Sending) (ps : List Line) (ms : Messages mended mask xs ps) (ls : List Line) → Mixed ps ls
+      → Few (before ++ calls ls)
       → Delivered ms r store before ls
 
 -- Demand 3, by the decoder's reading. "The list starts with a new receiver of an accepted mask and one store of 5,000 bytes, whatever they hold."

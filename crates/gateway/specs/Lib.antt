@@ -1,4 +1,5 @@
 pub mod Demand
+pub mod Losses
 pub mod Run
 pub mod Script
 pub mod Source

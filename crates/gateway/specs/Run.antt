@@ -3,13 +3,14 @@
 use mathlib.Core.Bool.{Bool, true, false, _&&_, _||_, not}
 use mathlib.Core.List.{List, [], _∷_, _++_}
 use mathlib.Core.Option.{Option, none, some}
-use Prim.Native.Nat.{ℕ, _+_}
+use Prim.Native.Nat.{ℕ, suc, _+_, _^_, _<_}
 use lib.ListN.{length, getD}
 use lib.Dec.{ltb, eqb}
 use Rattle.laws.specs.Pick.{pick}
 use Rattle.refusals.specs.Limits.{fieldOk}
-use Rattle.receiver.specs.Join.{Heard, After, resetOf, joinOf}
-use Rattle.receiver.specs.Push.{fragmentLength, pushOf}
+use Rattle.receiver.specs.Join.{Heard, After}
+use Rattle.receiver.specs.Push.{fragmentLength}
+use Rattle.receiver.specs.Tally.{joinTallied, pushTallied, resetTallied}
 use Rattle.receiver.specs.declared.Reassembler.{Reassembler}
 
 -- A call on the receiver and its store.
@@ -34,14 +35,14 @@ pub record Step : Type 0 where
   pub next : State
 
 -- The step of a push or a join.
-abbrev pub seen : After → Step
+abbrev pub seen : After Reassembler → Step
 seen a = record { answer = some (a .heard); next = state (a .receiver) (a .store) }
 
 -- One call.
 abbrev pub stepOf : State → Call → Step
-stepOf t (push f field) = seen (pushOf (t .receiver) (t .store) f field)
-stepOf t (join f n) = seen (joinOf (t .receiver) (t .store) f n)
-stepOf t reset = record { answer = none; next = state (resetOf (t .receiver)) (t .store) }
+stepOf t (push f field) = seen (pushTallied (t .receiver) (t .store) f field)
+stepOf t (join f n) = seen (joinTallied (t .receiver) (t .store) f n)
+stepOf t reset = record { answer = none; next = state (resetTallied (t .receiver)) (t .store) }
 
 -- The answers to a list of calls. "Each `push`, `join` and reset gets the state and the store as the call before left them, and nobody else
 -- writes them meanwhile."
@@ -54,8 +55,19 @@ unfoldable pub leftBy : State → List Call → State
 leftBy t [] = t
 leftBy t (c ∷ cs) = leftBy (stepOf t c .next) cs
 
+-- How many pushes and joins a list has, refused ones too.
+unfoldable pub offers : List Call → ℕ
+offers [] = 0
+offers (push f field ∷ cs) = suc (offers cs)
+offers (join f n ∷ cs) = suc (offers cs)
+offers (reset ∷ cs) = offers cs
+
+-- "lists of fewer than 2^64 pushes and joins in all" (02, E12)
+abbrev pub Few : List Call → Type 0
+Few cs = offers cs < 2 ^ 64
+
 -- "A push or join is idle where it is refused, its frame has another length, or n is 0 or beyond f". (With an accepted mask and a store of
--- 5,000 bytes it is refused only for its field: `never-refused` in proofs/Idle.)
+-- 5,000 bytes it is refused only for its field, up to 2^64 pushes and joins in all: `never-refused` in proofs/Idle.)
 abbrev pub idle : Call → Bool
 idle (push f field) =
     not (fieldOk field)

@@ -4,11 +4,14 @@ use mathlib.Core.Path.{_≡_}
 use mathlib.Core.Bool.{Bool, true}
 use mathlib.Core.List.{List, [], _∷_}
 use mathlib.Core.Option.{Option, none, some}
-use Prim.Native.Nat.{ℕ}
+use Prim.Native.Nat.{ℕ, _+_}
+use lib.ListN.{length}
+use lib.Dec.{eqb}
 use Rattle.laws.specs.Pick.{pick}
 use Rattle.refusals.specs.Limits.{fieldOk}
 use Rattle.frame.specs.declared.Control.{Control}
 use Rattle.receiver.specs.Join.{Heard, refused, dropped}
+use Rattle.receiver.specs.declared.Cause.the-variants.{WrongLength, NoFragment}
 use Rattle.gateway.specs.Run.{Call, push, join, reset, idle, ending}
 
 -- A message, "a field size of its own", and for each of its fragments "any other arguments" of `build_frame`.
@@ -37,10 +40,10 @@ abbrev pub answers : List Line → List (Option Heard)
 answers [] = []
 answers (l ∷ ls) = l .answer ∷ answers ls
 
--- An idle call "answers the table's refusal, else Dropped". (A reset is not idle.)
+-- An idle call "answers the table's refusal, else Dropped": for a wrong length, or for no fragment. (A reset is not idle.)
 abbrev pub idleAnswer : Call → Option Heard
-idleAnswer (push f field) = some (pick (fieldOk field) dropped (refused 8))
-idleAnswer (join f n) = some dropped
+idleAnswer (push f field) = some (pick (fieldOk field) (dropped (pick (eqb (length f) (field + 3)) NoFragment WrongLength)) (refused 8))
+idleAnswer (join f n) = some (dropped NoFragment)
 idleAnswer reset = none
 
 -- "Frames of a wrong length and other idle calls may stand anywhere between": the second list is the first with idle calls put in before,

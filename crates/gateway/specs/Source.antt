@@ -26,7 +26,7 @@ abbrev pub handed : List (Option Heard) → List (List ℕ)
 handed [] = []
 handed (some (done n b) ∷ rest) = b ∷ handed rest
 handed (some (refused k) ∷ rest) = handed rest
-handed (some dropped ∷ rest) = handed rest
+handed (some (dropped c) ∷ rest) = handed rest
 handed (some more ∷ rest) = handed rest
 handed (none ∷ rest) = handed rest
 

@@ -147,7 +147,7 @@ fn told(text: &[u8], space: &[u8], pushed: Pushed) -> Step {
 fn same_heard(text: &[u8], store: &[u8], ours: Push) -> Outcome {
     match ours {
         Push::Refused(n) => same_refusal(text, n),
-        Push::Dropped => same_word(text, b"dropped"),
+        Push::Dropped(_) => same_word(text, b"dropped"),
         Push::More => same_word(text, b"more"),
         Push::Done(n) => same_done(text, store, n),
     }

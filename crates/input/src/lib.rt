@@ -153,7 +153,7 @@ pub fn next(s: Stand, chunk: &mut [u8], line: &mut [u8]) -> Stand
 }
 
 // Word i of the command line is this one; the program's own name is word 0.
-pub fn is_word(i: usize, word: &[u8]) -> bool {
+fn is_word(i: usize, word: &[u8]) -> bool {
     let mut text = io::buffer();
     let n = os::arg(i, &mut text);
     check::same(&text[..n], word)
@@ -166,17 +166,28 @@ fn number_at(i: usize) -> Number {
     decimal(&text[..n])
 }
 
-// How many words the command line has: the program's name and two numbers, and one word more where that is so.
-fn words(with_word: bool) -> usize {
-    if with_word {
+// The command line has this word after its two numbers, first or second.
+pub fn has_word(word: &[u8]) -> bool {
+    is_word(3, word) | is_word(4, word)
+}
+
+// How many words the command line has: the program's name and two numbers, and one more for each of these that is so.
+fn words(first: bool, second: bool) -> usize {
+    if first {
+        if second {
+            return 5;
+        }
+        return 4;
+    }
+    if second {
         return 4;
     }
     3
 }
 
-// The two numbers of the command line, with a word after them or with nothing.
-pub fn numbers(with_word: bool) -> Arguments {
-    if os::arg_count() != words(with_word) {
+// The two numbers of the command line, with one word or two after them where these are so, and with nothing else.
+pub fn numbers(first: bool, second: bool) -> Arguments {
+    if os::arg_count() != words(first, second) {
         return Arguments::Other;
     }
     let Number::Is(a) = number_at(1) else {

@@ -22,7 +22,7 @@ use Rattle.kiss.proofs.TellLaws.{Handed, told-answer, told-refused}
 use Rattle.room.specs.Room.{mostDecoded}
 use Rattle.room.proofs.DecodeRoom.{decoded-fits}
 use Rattle.receiver.specs.Join.{After}
-use Rattle.receiver.specs.Push.{pushOf}
+use Rattle.receiver.specs.Tally.{pushTallied}
 use Rattle.receiver.specs.declared.Reassembler.{Reassembler}
 use Rattle.ax25_address.specs.Types.{callLen}
 use Rattle.texts.specs.Hex.{bytesOf, readOf}
@@ -85,11 +85,11 @@ module _ (mended : Bool) (m out t : List ℕ) (r : answered.Decoded) (e : (decod
 
 -- ---- a frame
 
-module _ (mended : Bool) (x a : After) where
+module _ (mended : Bool) (x a : After Reassembler) where
   -- what a push leaves, part by part
   pub parted : x ≡ a → {b c : List ℕ} {n : ℕ} → Wrote b 0 (heardText mended (x .heard)) c n
       → Wrote b 0 (heardText mended (a .heard)) c n × (x .receiver ≡ a .receiver) × (x .store ≡ a .store)
-  parted e w = (rw (ap (λ (y : After). y .heard) e) at w, ap (λ (y : After). y .receiver) e, ap (λ (y : After). y .store) e)
+  parted e w = (rw (ap (λ (y : After Reassembler). y .heard) e) at w, ap (λ (y : After Reassembler). y .receiver) e, ap (λ (y : After Reassembler). y .store) e)
 
 pub paired : {r q : Reassembler} {s t : List ℕ} {z : Reassembler × List ℕ} → r ≡ q → s ≡ t → (q, t) ≡ z → (r, s) ≡ z
 paired e f g = rw (e, f) g
@@ -107,7 +107,7 @@ module _ (mended : Bool) (field number : ℕ) (r : Reassembler) (store line : Li
     line-unread other =
         pick-false _ _ (ne-eqb (length line) 0 some) ∙ rw (← is) (unread-by number _ q other)
 
-    pub line-heard : (n : ℕ) → q ≡ Bytes n → lineText mended field number r store line ≡ heardText mended (pushOf r store (bytesOf line) field .heard)
+    pub line-heard : (n : ℕ) → q ≡ Bytes n → lineText mended field number r store line ≡ heardText mended (pushTallied r store (bytesOf line) field .heard)
     unfolding lineText readOr
     line-heard n e = pick-false _ _ (ne-eqb (length line) 0 some) ∙ rw (← is, e)
 
@@ -117,7 +117,7 @@ module _ (field : ℕ) (r : Reassembler) (store line : List ℕ) where
   left-none h = sym (pick-true _ _ (eq-eqb (length line) 0 h))
 
   module _ (some : length line ≡ 0 → ⊥) (q : Read) (is : q ≡ readOf lineRoom line) where
-    left-other : (x : Read) → ((n : ℕ) → x ≡ Bytes n → ⊥) → leftBy (r, store) (pushOf r store (bytesOf line) field) x ≡ (r, store)
+    left-other : (x : Read) → ((n : ℕ) → x ≡ Bytes n → ⊥) → leftBy (r, store) (pushTallied r store (bytesOf line) field) x ≡ (r, store)
     unfolding leftBy
     left-other (Bytes n) f = absurd (f n refl)
     left-other NoDigit f = refl
@@ -128,6 +128,6 @@ module _ (field : ℕ) (r : Reassembler) (store line : List ℕ) where
     unfolding lineLeft
     left-unread other = sym (pick-false _ _ (ne-eqb (length line) 0 some) ∙ rw (← is) (left-other q other))
 
-    pub left-heard : (n : ℕ) → q ≡ Bytes n → (pushOf r store (bytesOf line) field .receiver, pushOf r store (bytesOf line) field .store) ≡ lineLeft field r store line
+    pub left-heard : (n : ℕ) → q ≡ Bytes n → (pushTallied r store (bytesOf line) field .receiver, pushTallied r store (bytesOf line) field .store) ≡ lineLeft field r store line
     unfolding lineLeft leftBy
     left-heard n e = sym (pick-false _ _ (ne-eqb (length line) 0 some) ∙ rw (← is, e))

@@ -12,7 +12,7 @@ use Rattle.ax25_address.specs.Types.{callLen}
 use Rattle.kiss.specs.Codec.{Decoded, decodeOf}
 use Rattle.receiver.specs.Join.{After, Heard, dropped, more, done}
 use Rattle.receiver.specs.Join as join
-use Rattle.receiver.specs.Push.{pushOf}
+use Rattle.receiver.specs.Tally.{pushTallied}
 use Rattle.receiver.specs.declared.Reassembler.{Reassembler}
 use Rattle.texts.specs.Hex.{bytesOf, readOf}
 use Rattle.texts.specs.Say.{lineRoom, spelledOf, refusalLine, readOr}
@@ -40,7 +40,7 @@ decodedText (answer d) = doneText (d .command) (d .bytes)
 
 unfoldable pub heardText : Bool → Heard → List ℕ
 heardText mended (join.refused n) = refusalLine n
-heardText mended dropped = ascii "dropped" ++ (10 ∷ [])
+heardText mended (dropped c) = ascii "dropped" ++ (10 ∷ [])
 heardText mended more = ascii "more" ++ (10 ∷ [])
 heardText mended (done n m) = decodedText (decodeOf mended m)
 
@@ -50,10 +50,10 @@ heardText mended (done n m) = decodedText (decodeOf mended m)
 unfoldable pub lineText : Bool → ℕ → ℕ → Reassembler → List ℕ → List ℕ → List ℕ
 lineText mended field number r store line =
     pick (eqb (length line) 0) []
-    (readOr number (heardText mended (pushOf r store (bytesOf line) field .heard)) (readOf lineRoom line))
+    (readOr number (heardText mended (pushTallied r store (bytesOf line) field .heard)) (readOf lineRoom line))
 
 -- the receiver and the store afterwards: as they were where no frame was read
-unfoldable pub leftBy : Reassembler × List ℕ → After → Read → Reassembler × List ℕ
+unfoldable pub leftBy : Reassembler × List ℕ → After Reassembler → Read → Reassembler × List ℕ
 leftBy before a (Bytes n) = (a .receiver, a .store)
 leftBy before a NoDigit = before
 leftBy before a Odd = before
@@ -61,4 +61,4 @@ leftBy before a TooLong = before
 
 unfoldable pub lineLeft : ℕ → Reassembler → List ℕ → List ℕ → Reassembler × List ℕ
 lineLeft field r store line =
-    pick (eqb (length line) 0) (r, store) (leftBy (r, store) (pushOf r store (bytesOf line) field) (readOf lineRoom line))
+    pick (eqb (length line) 0) (r, store) (leftBy (r, store) (pushTallied r store (bytesOf line) field) (readOf lineRoom line))

@@ -1,5 +1,6 @@
 // What `receive` does: it reads frames from standard input, one a line, and writes what comes of each.
 mod line;
+mod loss;
 
 ghost use mathlib.Core.Path.{_≡_};
 ghost use Prim.Native.Nat.{_^_, _≤_, _<_};
@@ -7,18 +8,25 @@ ghost use lib.ListN.{length};
 ghost use Rattle.room.specs.Room.{mostDecoded};
 use input::Arguments;
 use input::Stand;
-use input::is_word;
+use input::has_word;
 use input::mask_of;
 use input::next;
 use input::numbers;
 use input::print;
 use line::Step;
+use loss::put_losses;
 use receiver::Fresh;
 use receiver::Reassembler;
 use texts::part::front;
 use texts::part::without_cr;
 use texts::say::put_error;
 use texts::say::put_refusal;
+
+// How the lines ended: all were answered, which leaves a receiver, or an answer could not be written.
+enum End {
+    Answered(Reassembler),
+    Unwritten,
+}
 
 // The receiver's store. The contract gives only the length, so that no caller's proof unfolds the array.
 fn store() -> [u8; 5000]
@@ -34,13 +42,15 @@ fn room() -> [u8; 400000]
     [0; 400000]
 }
 
-// The whole program: FIELD and MASK from the command line, and the word `mended` after them for the mended reading; then every line.
+// The whole program: FIELD and MASK from the command line, then every line. After them may stand, in any order, the word `mended` for
+// the mended reading and the word `tallies` for a line at the end that says where the frames went.
 pub fn run() {
-    let mended = is_word(3, b"mended");
-    let Arguments::Two(field, mask) = numbers(mended) else {
+    let mended = has_word(b"mended");
+    let tallies = has_word(b"tallies");
+    let Arguments::Two(field, mask) = numbers(mended, tallies) else {
         io::write_all(
             1,
-            b"usage: receive FIELD MASK [mended] (bytes of a frame's field, 3 to 512; mask of 1 to 7 check bits: 128, 192, 224, 240 (HF), 248 (FM), 252 or 254; mended: WIDE1-2, WIDE1-3, WIDE2-2 and WIDE2-3 are read as sent)\n",
+            b"usage: receive FIELD MASK [mended] [tallies] (bytes of a frame's field, 3 to 512; mask of 1 to 7 check bits: 128, 192, 224, 240 (HF), 248 (FM), 252 or 254; mended: WIDE1-2, WIDE1-3, WIDE2-2 and WIDE2-3 are read as sent; tallies: a last line counts the frames by what came of them)\n",
         );
         return;
     };
@@ -51,22 +61,33 @@ pub fn run() {
             print(&out, size);
         }
         Fresh::Ready(receiver) => {
-            let mut chunk = io::buffer();
-            let mut line = input::room();
-            let mut space = store();
-            let mut data = io::large_buffer();
-            lines(
-                receiver,
-                field as usize,
-                &mut chunk,
-                &mut line,
-                &mut space,
-                &mut data,
-                &mut out,
-                mended,
-            );
+            let End::Answered(left) = every(receiver, field as usize, &mut out, mended) else {
+                return;
+            };
+            if tallies {
+                let size = put_losses(&mut out, left.tallies);
+                print(&out, size);
+            }
         }
     }
+}
+
+// Answers every line of standard input.
+fn every(receiver: Reassembler, field: usize, out: &mut [u8], mended: bool) -> End {
+    let mut chunk = io::buffer();
+    let mut line = input::room();
+    let mut space = store();
+    let mut data = io::large_buffer();
+    lines(
+        receiver,
+        field,
+        &mut chunk,
+        &mut line,
+        &mut space,
+        &mut data,
+        out,
+        mended,
+    )
 }
 
 // Answers every line, as long as the answers can be written.
@@ -79,7 +100,7 @@ fn lines(
     data: &mut [u8],
     out: &mut [u8],
     mended: bool,
-)
+) -> End
     requires { ⌜ (length (now chunk) < 2 ^ 60) × (length (now line) < 2 ^ 60) × (mostDecoded ≤ length (now «data»)) × (length (now «data») < 2 ^ 50) ⌝ }
 {
     let mut stand = input::start();
@@ -88,15 +109,16 @@ fn lines(
     while 0 < turns {
         stand = next(stand, chunk, line);
         if stand.ended && stand.len == 0 {
-            return;
+            return End::Answered(state);
         }
         let said = answer(state, space, line, stand, field, data, out, mended);
         state = said.receiver;
         if !print(out, said.size) {
-            return;
+            return End::Unwritten;
         }
         turns -= 1;
     }
+    End::Answered(state)
 }
 
 // What is said of the line that was read.

@@ -5,7 +5,7 @@ ghost use lib.ListN.{length};
 ghost use Rattle.laws.specs.Wrote.{Wrote};
 ghost use Rattle.kiss.specs.Codec.{decodeOf};
 ghost use Rattle.receiver.specs.Join.{heardOf};
-ghost use Rattle.receiver.specs.Push.{pushOf};
+ghost use Rattle.receiver.specs.Tally.{pushTallied};
 ghost use Rattle.room.specs.Room.{mostDecoded};
 ghost use Rattle.texts.specs.Say.{digitsOf};
 ghost use Rattle.receive_lines.specs.Line.{readableOf, doneText, decodedText, heardText, lineText, lineLeft};
@@ -85,7 +85,7 @@ fn told(answer: Push, store: &[u8], data: &mut [u8], out: &mut [u8], mended: boo
 {
     match answer {
         Push::Refused(n) => put_refusal(out, 0, n),
-        Push::Dropped => copy(out, 0, b"dropped\n"),
+        Push::Dropped(_) => copy(out, 0, b"dropped\n"),
         Push::More => copy(out, 0, b"more\n"),
         Push::Done(n) => decoded(front(store, n), data, out, mended),
     }
@@ -102,9 +102,9 @@ fn heard(
     mended: bool,
 ) -> Step
     requires { ⌜ (mostDecoded ≤ length (now «data»)) × (length (now «data») < 2 ^ 50) ⌝ }
-    ensures { λ r. ⌜ Wrote (now (out .entry)) 0 (heardText mended (pushOf receiver (now (store .entry)) (now (frame .entry)) field .heard)) (now (out .exit)) (r .size)
-        × (r .receiver ≡ pushOf receiver (now (store .entry)) (now (frame .entry)) field .receiver)
-        × (now (store .exit) ≡ pushOf receiver (now (store .entry)) (now (frame .entry)) field .store) ⌝ }
+    ensures { λ r. ⌜ Wrote (now (out .entry)) 0 (heardText mended (pushTallied receiver (now (store .entry)) (now (frame .entry)) field .heard)) (now (out .exit)) (r .size)
+        × (r .receiver ≡ pushTallied receiver (now (store .entry)) (now (frame .entry)) field .receiver)
+        × (now (store .exit) ≡ pushTallied receiver (now (store .entry)) (now (frame .entry)) field .store) ⌝ }
 {
     let pushed = receiver.push(store, frame, field);
     let answer = pushed.answer;

@@ -15,7 +15,8 @@ use Rattle.laws.proofs.Cases.{by-test, by-le, by-eq}
 use Rattle.crc.specs.Crc.{crcBits}
 use Rattle.refusals.specs.Limits.{maskOk}
 use Rattle.receiver.specs.Join.{answered, emptied, ended, finishOf, baseOf, headed, grown, growOf, started, acceptOf, refusalOf, joinOf}
-use Rattle.receiver.specs.declared.Reassembler.{Reassembler}
+use Rattle.receiver.specs.declared.Joiner.{Joiner}
+use Rattle.receiver.specs.declared.Cause.the-variants.{NoFragment, Overflow, Limit, Check}
 use Rattle.receiver.specs.declared.Push.the-variants.{Refused, Dropped, More, Done}
 
 -- ---- the first byte
@@ -50,7 +51,7 @@ length-headed (suc held) s b = ap length (headed-some (suc held) s b (λ e. omeg
 
 -- ---- the last fragment, and a tail
 
-module _ (r : Reassembler) (s : List ℕ) (b : ℕ) where
+module _ (r : Joiner) (s : List ℕ) (b : ℕ) where
   pub finish-one : r .nfrag < 2 → finishOf r s b ≡ answered (Done (r .held)) (ended r) (set s 0 b)
   unfolding finishOf pick
   finish-one h = simp (lt-ltb _ _ h)
@@ -61,19 +62,19 @@ module _ (r : Reassembler) (s : List ℕ) (b : ℕ) where
   finish-good h e = simp (le-ltb _ _ h, eq-eqb _ _ e)
 
   pub finish-bad : 2 ≤ r .nfrag → (crcBits (take (r .held) (set s 0 b)) (r .«crc_mask») ≡ bitAnd (r .count) (r .«crc_mask») → ⊥)
-      → finishOf r s b ≡ answered Dropped (ended r) (set s 0 b)
+      → finishOf r s b ≡ answered (Dropped Check) (ended r) (set s 0 b)
   unfolding finishOf pick
   finish-bad h e = simp (le-ltb _ _ h, ne-eqb _ _ e)
 
   module _ (t : List ℕ) where
-    pub grow-many : 255 ≤ r .nfrag → growOf r s b t ≡ answered Dropped (emptied r (leb 0x80 b)) s
+    pub grow-many : 255 ≤ r .nfrag → growOf r s b t ≡ answered (Dropped Limit) (emptied r (leb 0x80 b)) s
     unfolding growOf pick
     grow-many h =
         by-le (baseOf (r .held) + length t) 5000
         (λ l. simp (le-ltb 5000 (baseOf (r .held) + length t) l, le-leb _ _ h))
         (λ l. simp (lt-ltb 5000 (baseOf (r .held) + length t) l))
 
-    pub grow-long : 5000 < baseOf (r .held) + length t → growOf r s b t ≡ answered Dropped (emptied r (leb 0x80 b)) s
+    pub grow-long : 5000 < baseOf (r .held) + length t → growOf r s b t ≡ answered (Dropped Limit) (emptied r (leb 0x80 b)) s
     unfolding growOf pick
     grow-long k = simp (lt-ltb 5000 (baseOf (r .held) + length t) k)
 
@@ -89,14 +90,14 @@ module _ (r : Reassembler) (s : List ℕ) (b : ℕ) where
 
 -- ---- a fragment
 
-module _ (r : Reassembler) (s f : List ℕ) (n : ℕ) where
+module _ (r : Joiner) (s f : List ℕ) (n : ℕ) where
   pub accept-over : r .overflow ≡ true
       → acceptOf r s f n
-      ≡ answered Dropped (record { held = r .held; nfrag = r .nfrag; count = r .count; «crc_mask» = r .«crc_mask»; overflow = leb 0x80 (getD f 0 0) }) s
+      ≡ answered (Dropped Overflow) (record { held = r .held; nfrag = r .nfrag; count = r .count; «crc_mask» = r .«crc_mask»; overflow = leb 0x80 (getD f 0 0) }) s
   unfolding acceptOf pick
   accept-over o = simp o
 
-  pub accept-short : r .overflow ≡ false → r .held ≡ 0 → 0x80 ≤ getD f 0 0 → length f < 2 → acceptOf r s f n ≡ answered Dropped r s
+  pub accept-short : r .overflow ≡ false → r .held ≡ 0 → 0x80 ≤ getD f 0 0 → length f < 2 → acceptOf r s f n ≡ answered (Dropped NoFragment) r s
   unfolding acceptOf pick
   accept-short o h m l = simp (o, eq-eqb _ _ h, le-leb _ _ m, lt-ltb _ _ l)
 
@@ -117,18 +118,18 @@ module _ (r : Reassembler) (s f : List ℕ) (n : ℕ) where
 -- ---- the refusals of a state
 
 -- no refusal: what the state and the store are then
-pub record Sound (r : Reassembler) (size : ℕ) : Type 0 where
+pub record Sound (r : Joiner) (size : ℕ) : Type 0 where
   pub store : size ≡ 5000
   pub fit : r .held ≤ 5000
   pub few : r .nfrag ≤ 255
   pub mask : maskOk (r .«crc_mask») ≡ true
 
-pub none-refused : (r : Reassembler) (size : ℕ) → Sound r size → refusalOf r size ≡ 0
+pub none-refused : (r : Joiner) (size : ℕ) → Sound r size → refusalOf r size ≡ 0
 unfolding refusalOf pick
 none-refused r size h = simp (eq-eqb _ _ (h .store), le-ltb _ _ (h .fit), le-ltb _ _ (h .few), h .mask)
 
 -- and only then
-pub refused-none : (r : Reassembler) (size : ℕ) → refusalOf r size ≡ 0 → Sound r size
+pub refused-none : (r : Joiner) (size : ℕ) → refusalOf r size ≡ 0 → Sound r size
 unfolding refusalOf pick
 refused-none r size e =
     by-eq size 5000
@@ -143,7 +144,7 @@ refused-none r size e =
 
 -- ---- `join`
 
-module _ (r : Reassembler) (s f : List ℕ) (n : ℕ) where
+module _ (r : Joiner) (s f : List ℕ) (n : ℕ) where
   pub join-refused : (refusalOf r (length s) ≡ 0 → ⊥) → joinOf r s f n ≡ answered (Refused (refusalOf r (length s))) r s
   unfolding joinOf pick
   join-refused h =
@@ -151,11 +152,11 @@ module _ (r : Reassembler) (s f : List ℕ) (n : ℕ) where
       rw (lt-ltb 0 (refusalOf r (length s)) p)
 
   module _ (e : refusalOf r (length s) ≡ 0) where
-    pub join-empty : n ≡ 0 → joinOf r s f n ≡ answered Dropped r s
+    pub join-empty : n ≡ 0 → joinOf r s f n ≡ answered (Dropped NoFragment) r s
     unfolding joinOf pick
     join-empty z = simp (e, eq-eqb _ _ z)
 
-    pub join-past : (n ≡ 0 → ⊥) → length f < n → joinOf r s f n ≡ answered Dropped r s
+    pub join-past : (n ≡ 0 → ⊥) → length f < n → joinOf r s f n ≡ answered (Dropped NoFragment) r s
     unfolding joinOf pick
     join-past z p = simp (e, ne-eqb _ _ z, lt-ltb _ _ p)
 

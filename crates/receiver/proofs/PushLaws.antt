@@ -11,7 +11,8 @@ use Rattle.laws.specs.Pick.{pick}
 use Rattle.refusals.specs.Limits.{fieldOk}
 use Rattle.receiver.specs.Join.{answered, refusalOf, joinOf}
 use Rattle.receiver.specs.Push.{lastFrom, fragmentLength, pushOf}
-use Rattle.receiver.specs.declared.Reassembler.{Reassembler}
+use Rattle.receiver.specs.declared.Joiner.{Joiner}
+use Rattle.receiver.specs.declared.Cause.the-variants.{WrongLength}
 use Rattle.receiver.specs.declared.Push.the-variants.{Refused, Dropped}
 
 pub length-full : (f : List ℕ) (field : ℕ) → getD f field 0 % 2 ≡ 1 → fragmentLength f field ≡ field
@@ -22,7 +23,7 @@ pub length-last : (f : List ℕ) (field : ℕ) → (getD f field 0 % 2 ≡ 1 →
 unfolding fragmentLength pick
 length-last f field e = simp (ne-eqb _ _ e)
 
-module _ (r : Reassembler) (s f : List ℕ) (field : ℕ) where
+module _ (r : Joiner) (s f : List ℕ) (field : ℕ) where
   pub push-refused : (refusalOf r (length s) ≡ 0 → ⊥) → pushOf r s f field ≡ answered (Refused (refusalOf r (length s))) r s
   unfolding pushOf pick
   push-refused h =
@@ -34,7 +35,7 @@ module _ (r : Reassembler) (s f : List ℕ) (field : ℕ) where
     unfolding pushOf pick
     push-field o = simp (e, o)
 
-    pub push-length : fieldOk field ≡ true → (length f ≡ field + 3 → ⊥) → pushOf r s f field ≡ answered Dropped r s
+    pub push-length : fieldOk field ≡ true → (length f ≡ field + 3 → ⊥) → pushOf r s f field ≡ answered (Dropped WrongLength) r s
     unfolding pushOf pick
     push-length o l = simp (e, o, ne-eqb _ _ l)
 

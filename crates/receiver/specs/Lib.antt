@@ -1,3 +1,4 @@
 pub mod Join
 pub mod New
 pub mod Push
+pub mod Tally

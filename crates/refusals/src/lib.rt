@@ -1,4 +1,4 @@
-// Document 01's refusal table: its numbers by name, the tests that several calls share, and the answer of a call that writes bytes.
+// The refusals of documents 01 and 02: their numbers by name, the tests that several calls share, and the answer of a call that writes bytes.
 ghost use mathlib.Core.Path.{_≡_};
 ghost use Rattle.refusals.specs.Limits.{fieldOk, maskOk};
 
@@ -36,6 +36,8 @@ pub const MARKER: u8 = 15;
 pub const CONTROL: u8 = 16;
 // The store has not 5,000 bytes, or the state holds over 5,000 or counts over 255.
 pub const STATE: u8 = 17;
+// A tally is already the largest 64-bit number.
+pub const TALLY: u8 = 27;
 
 // The longest data to code, and the longest message.
 pub const MAX_DATA: usize = 4999;

@@ -15,7 +15,7 @@ use texts::part::without_cr;
 use texts::say::put_error;
 
 fn main() {
-    let Arguments::Two(field, mask) = numbers(false) else {
+    let Arguments::Two(field, mask) = numbers(false, false) else {
         io::write_all(
             1,
             b"usage: send FIELD MASK (bytes of a frame's field, 3 to 512; mask of 1 to 7 check bits: 128, 192, 224, 240 (HF), 248 (FM), 252 or 254)\n",

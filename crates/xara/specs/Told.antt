@@ -10,10 +10,14 @@ use Rattle.refusals.specs.Outcome.{Outcome, refused, answer, Left}
 use Rattle.frame.specs.declared.Control.{Control}
 use Rattle.receiver.specs.Join.{After, Heard, dropped, more, done}
 use Rattle.receiver.specs.Join as join
+use Rattle.receiver.specs.New.{noTallies}
+use Rattle.receiver.specs.Tally.{causeNumber}
 use Rattle.receiver.specs.declared.Reassembler.{Reassembler}
+use Rattle.receiver.specs.declared.Tallies.{Tallies}
 use Rattle.kiss.specs.Codec.{Summary}
 use Rattle.xara.specs.declared.XaraAnswer.{XaraAnswer}
 use Rattle.xara.specs.declared.XaraControl.{XaraControl}
+use Rattle.xara.specs.declared.XaraTallies.{XaraTallies}
 use Rattle.xara.specs.declared.XaraReceiver.{XaraReceiver}
 use Rattle.xara.specs.declared.XaraFresh.{XaraFresh}
 use Rattle.xara.specs.declared.XaraPushed.{XaraPushed}
@@ -31,15 +35,55 @@ flag b = not (eqb b 0)
 abbrev pub controlOf : XaraControl → Control
 controlOf c = record { reply = c .reply; compressed = flag (c .compressed); hint = c .hint }
 
--- a receiver's state
+-- the eight tallies
+abbrev pub talliesOf : XaraTallies → Tallies
+talliesOf t =
+    record {
+      offered = t .offered;
+      more = t .more;
+      done = t .done;
+      «wrong_length» = t .«wrong_length»;
+      «no_fragment» = t .«no_fragment»;
+      overflow = t .overflow;
+      limit = t .limit;
+      check = t .check;
+    }
+
+-- a receiver's state with its tallies
 abbrev pub receiverOf : XaraReceiver → Reassembler
-receiverOf r = record { held = r .held; nfrag = r .nfrag; count = r .count; «crc_mask» = r .«crc_mask»; overflow = flag (r .overflow) }
+receiverOf r =
+    record {
+      state = record { held = r .held; nfrag = r .nfrag; count = r .count; «crc_mask» = r .«crc_mask»; overflow = flag (r .overflow) };
+      tallies = talliesOf (r .tallies);
+    }
 
 -- ---- what C is handed back
 
--- a receiver's state; its overflow is 0 or 1
+-- the eight tallies
+abbrev pub toTallies : Tallies → XaraTallies
+toTallies t =
+    record {
+      offered = t .offered;
+      more = t .more;
+      done = t .done;
+      «wrong_length» = t .«wrong_length»;
+      «no_fragment» = t .«no_fragment»;
+      overflow = t .overflow;
+      limit = t .limit;
+      check = t .check;
+    }
+
+-- a receiver's state with its tallies; its overflow is 0 or 1
 abbrev pub toReceiver : Reassembler → XaraReceiver
-toReceiver r = record { held = r .held; nfrag = r .nfrag; count = r .count; «crc_mask» = r .«crc_mask»; overflow = num (r .overflow) }
+toReceiver r =
+    record {
+      held = r .state .held;
+      nfrag = r .state .nfrag;
+      count = r .state .count;
+      «crc_mask» = r .state .«crc_mask»;
+      overflow = num (r .state .overflow);
+      tallies = toTallies (r .tallies);
+    }
 
 -- a length or a count, or a refusal's number
 abbrev pub toAnswer : Outcome ℕ → XaraAnswer
@@ -53,19 +97,23 @@ toAnswerWith l = (toAnswer (l .outcome), l .out)
 -- a new receiver, or a refusal's number beside a receiver of zeros
 abbrev pub toFresh : Outcome Reassembler → XaraFresh
 toFresh (refused n) =
-    record { ok = false; refusal = n; receiver = record { held = 0; nfrag = 0; count = 0; «crc_mask» = 0; overflow = 0 } }
+    record {
+      ok = false;
+      refusal = n;
+      receiver = record { held = 0; nfrag = 0; count = 0; «crc_mask» = 0; overflow = 0; tallies = toTallies noTallies };
+    }
 toFresh (answer r) = record { ok = true; refusal = 0; receiver = toReceiver r }
 
--- what a push or a join answers: kind 0 refused with its number, 1 dropped, 2 more, 3 done with the message's length. A refusal "changes
--- nothing in the receiver": the very struct that came in is handed back. Else it is the state that the call leaves
+-- what a push or a join answers: kind 0 refused with its number, 1 dropped with its cause, 2 more, 3 done with the message's length. A
+-- refusal "changes nothing in the receiver": the very struct that came in is handed back. Else it is the receiver that the call leaves
 abbrev pub toPushed : XaraReceiver → Heard → Reassembler → XaraPushed
-toPushed came (join.refused n) left = record { kind = 0; refusal = n; length = 0; receiver = came }
-toPushed came dropped left = record { kind = 1; refusal = 0; length = 0; receiver = toReceiver left }
-toPushed came more left = record { kind = 2; refusal = 0; length = 0; receiver = toReceiver left }
-toPushed came (done n message) left = record { kind = 3; refusal = 0; length = n; receiver = toReceiver left }
+toPushed came (join.refused n) left = record { kind = 0; refusal = n; cause = 0; length = 0; receiver = came }
+toPushed came (dropped c) left = record { kind = 1; refusal = 0; cause = causeNumber c; length = 0; receiver = toReceiver left }
+toPushed came more left = record { kind = 2; refusal = 0; cause = 0; length = 0; receiver = toReceiver left }
+toPushed came (done n message) left = record { kind = 3; refusal = 0; cause = 0; length = n; receiver = toReceiver left }
 
 -- the same beside the store afterwards
-abbrev pub toPushedWith : XaraReceiver → After → XaraPushed × List ℕ
+abbrev pub toPushedWith : XaraReceiver → After Reassembler → XaraPushed × List ℕ
 toPushedWith came a = (toPushed came (a .heard) (a .receiver), a .store)
 
 -- the message's length and the data's type, or a refusal's number

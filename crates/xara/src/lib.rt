@@ -7,22 +7,25 @@ ghost use Rattle.crc.specs.Crc.{crcOf};
 ghost use Rattle.refusals.specs.Outcome.{refused, answer, outcomeOf, into};
 ghost use Rattle.sender.specs.Send.{countFor, sendOf};
 ghost use Rattle.frame.specs.Frame.{buildOf};
-ghost use Rattle.receiver.specs.Join.{heardOf, resetOf, joinOf};
+ghost use Rattle.receiver.specs.Join.{heardOf};
 ghost use Rattle.receiver.specs.New.{newOf};
-ghost use Rattle.receiver.specs.Push.{pushOf};
+ghost use Rattle.receiver.specs.Tally.{causeNumber, joinTallied, pushTallied, resetTallied};
 ghost use Rattle.kiss.specs.Codec.{codeOf, summaryOf, decodeOf};
 ghost use Rattle.kiss.specs.Told.{codeInto, decodedOf, decodeInto};
-ghost use Rattle.xara.specs.Told.{controlOf, receiverOf, toReceiver, toAnswer, toAnswerWith, toFresh, toPushed, toPushedWith, toEncodedWith, toSummary, toDecoded, toDecodedWith};
+ghost use Rattle.xara.specs.Told.{controlOf, talliesOf, receiverOf, toTallies, toReceiver, toAnswer, toAnswerWith, toFresh, toPushed, toPushedWith, toEncodedWith, toSummary, toDecoded, toDecodedWith};
 ghost use Rattle.laws.specs.Bits.{num};
 use ax25_address::classify::code;
 use frame::Control;
 use kiss::Decoded;
 use kiss::Encoded;
 use kiss::Summarised;
+use receiver::Cause;
 use receiver::Fresh;
+use receiver::Joiner;
 use receiver::Push;
 use receiver::Pushed;
 use receiver::Reassembler;
+use receiver::Tallies;
 use refusals::Answer;
 use sender::Counted;
 
@@ -42,6 +45,19 @@ pub struct XaraControl {
     pub hint: u8,
 }
 
+// How many frames and fragments a receiver was offered and did not refuse, and how many of them had each answer.
+#[repr(C)]
+pub struct XaraTallies {
+    pub offered: u64,
+    pub more: u64,
+    pub done: u64,
+    pub wrong_length: u64,
+    pub no_fragment: u64,
+    pub overflow: u64,
+    pub limit: u64,
+    pub check: u64,
+}
+
 // A receiver's state. Any byte but 0 is overflow.
 #[repr(C)]
 pub struct XaraReceiver {
@@ -50,6 +66,7 @@ pub struct XaraReceiver {
     pub count: u8,
     pub crc_mask: u8,
     pub overflow: u8,
+    pub tallies: XaraTallies,
 }
 
 // ok with a new receiver, or a refusal's number.
@@ -60,11 +77,13 @@ pub struct XaraFresh {
     pub receiver: XaraReceiver,
 }
 
-// What a push or a join answers, by kind: 0 refused with its number, 1 dropped, 2 more, 3 done with the message's length; and the receiver.
+// What a push or a join answers, by kind: 0 refused with its number, 1 dropped with its cause, 2 more, 3 done with the message's length; and
+// the receiver.
 #[repr(C)]
 pub struct XaraPushed {
     pub kind: u8,
     pub refusal: u8,
+    pub cause: u8,
     pub length: usize,
     pub receiver: XaraReceiver,
 }
@@ -137,28 +156,96 @@ fn said(answer: Answer) -> XaraAnswer
     }
 }
 
+// Tallies as the receiver has them, and back.
+fn tallies_read(tallies: XaraTallies) -> Tallies
+    ensures { λ r. ⌜ r ≡ talliesOf tallies ⌝ }
+{
+    Tallies {
+        offered: tallies.offered,
+        more: tallies.more,
+        done: tallies.done,
+        wrong_length: tallies.wrong_length,
+        no_fragment: tallies.no_fragment,
+        overflow: tallies.overflow,
+        limit: tallies.limit,
+        check: tallies.check,
+    }
+}
+
+fn tallies_shown(tallies: Tallies) -> XaraTallies
+    ensures { λ r. ⌜ r ≡ toTallies tallies ⌝ }
+{
+    XaraTallies {
+        offered: tallies.offered,
+        more: tallies.more,
+        done: tallies.done,
+        wrong_length: tallies.wrong_length,
+        no_fragment: tallies.no_fragment,
+        overflow: tallies.overflow,
+        limit: tallies.limit,
+        check: tallies.check,
+    }
+}
+
 // A receiver's state as the receiver has it, and back.
 fn read(receiver: XaraReceiver) -> Reassembler
     ensures { λ r. ⌜ r ≡ receiverOf receiver ⌝ }
 {
+    let counted = receiver.tallies;
+    let tallies = tallies_read(counted);
     Reassembler {
-        held: receiver.held,
-        nfrag: receiver.nfrag,
-        count: receiver.count,
-        crc_mask: receiver.crc_mask,
-        overflow: receiver.overflow != 0,
+        state: Joiner {
+            held: receiver.held,
+            nfrag: receiver.nfrag,
+            count: receiver.count,
+            crc_mask: receiver.crc_mask,
+            overflow: receiver.overflow != 0,
+        },
+        tallies,
     }
 }
 
 fn shown(receiver: Reassembler) -> XaraReceiver
     ensures { λ r. ⌜ r ≡ toReceiver receiver ⌝ }
 {
+    let state = receiver.state;
+    let counted = receiver.tallies;
+    let tallies = tallies_shown(counted);
+    XaraReceiver {
+        held: state.held,
+        nfrag: state.nfrag,
+        count: state.count,
+        crc_mask: state.crc_mask,
+        overflow: byte(state.overflow),
+        tallies,
+    }
+}
+
+// The number of a cause.
+fn cause_number(cause: Cause) -> u8
+    ensures { λ r. ⌜ r ≡ causeNumber cause ⌝ }
+{
+    match cause {
+        Cause::WrongLength => 1,
+        Cause::NoFragment => 2,
+        Cause::Overflow => 3,
+        Cause::Limit => 4,
+        Cause::Check => 5,
+    }
+}
+
+// The struct that came in, field by field: what lies between the fields is not carried along.
+fn copied(receiver: XaraReceiver) -> XaraReceiver
+    ensures { λ r. ⌜ r ≡ receiver ⌝ }
+{
+    let tallies = receiver.tallies;
     XaraReceiver {
         held: receiver.held,
         nfrag: receiver.nfrag,
         count: receiver.count,
         crc_mask: receiver.crc_mask,
-        overflow: byte(receiver.overflow),
+        overflow: receiver.overflow,
+        tallies,
     }
 }
 
@@ -167,30 +254,34 @@ fn heard(came: XaraReceiver, pushed: Pushed) -> XaraPushed
     ensures { λ r. ⌜ ((store : List ℕ) → r ≡ toPushed came (heardOf (pushed .answer) store) (pushed .receiver)) ⌝ }
 {
     let answer = pushed.answer;
-    let state = pushed.receiver;
-    let receiver = shown(state);
+    let left = pushed.receiver;
+    let receiver = shown(left);
     match answer {
         Push::Refused(refusal) => XaraPushed {
             kind: 0,
             refusal,
+            cause: 0,
             length: 0,
-            receiver: came,
+            receiver: copied(came),
         },
-        Push::Dropped => XaraPushed {
+        Push::Dropped(cause) => XaraPushed {
             kind: 1,
             refusal: 0,
+            cause: cause_number(cause),
             length: 0,
             receiver,
         },
         Push::More => XaraPushed {
             kind: 2,
             refusal: 0,
+            cause: 0,
             length: 0,
             receiver,
         },
         Push::Done(length) => XaraPushed {
             kind: 3,
             refusal: 0,
+            cause: 0,
             length,
             receiver,
         },
@@ -269,7 +360,7 @@ pub extern "C" fn xara_build_frame(
     said(frame::build_frame(field, data, control, marker, out))
 }
 
-// A receiver that holds nothing.
+// A receiver that holds nothing, its tallies 0.
 #[no_mangle]
 pub extern "C" fn xara_receiver_new(crc_mask: u8) -> XaraFresh
     ensures { λ r. ⌜ r ≡ toFresh (newOf «crc_mask») ⌝ }
@@ -284,6 +375,16 @@ pub extern "C" fn xara_receiver_new(crc_mask: u8) -> XaraFresh
                 count: 0,
                 crc_mask: 0,
                 overflow: 0,
+                tallies: XaraTallies {
+                    offered: 0,
+                    more: 0,
+                    done: 0,
+                    wrong_length: 0,
+                    no_fragment: 0,
+                    overflow: 0,
+                    limit: 0,
+                    check: 0,
+                },
             },
         },
         Fresh::Ready(receiver) => XaraFresh {
@@ -302,7 +403,7 @@ pub extern "C" fn xara_receiver_push(
     frame: &[u8],
     field: usize,
 ) -> XaraPushed
-    ensures { λ r. ⌜ (r, now (store .exit)) ≡ toPushedWith receiver (pushOf (receiverOf receiver) (now (store .entry)) (now (frame .entry)) field) ⌝ }
+    ensures { λ r. ⌜ (r, now (store .exit)) ≡ toPushedWith receiver (pushTallied (receiverOf receiver) (now (store .entry)) (now (frame .entry)) field) ⌝ }
 {
     heard(receiver, read(receiver).push(store, frame, field))
 }
@@ -315,15 +416,15 @@ pub extern "C" fn xara_receiver_join(
     f: &[u8],
     n: usize,
 ) -> XaraPushed
-    ensures { λ r. ⌜ (r, now (store .exit)) ≡ toPushedWith receiver (joinOf (receiverOf receiver) (now (store .entry)) (now (f .entry)) n) ⌝ }
+    ensures { λ r. ⌜ (r, now (store .exit)) ≡ toPushedWith receiver (joinTallied (receiverOf receiver) (now (store .entry)) (now (f .entry)) n) ⌝ }
 {
     heard(receiver, read(receiver).join(store, f, n))
 }
 
-// Nothing held, fragments 0, no overflow.
+// Nothing held, fragments 0, no overflow. The tallies are kept.
 #[no_mangle]
 pub extern "C" fn xara_receiver_reset(receiver: XaraReceiver) -> XaraReceiver
-    ensures { λ r. ⌜ r ≡ toReceiver (resetOf (receiverOf receiver)) ⌝ }
+    ensures { λ r. ⌜ r ≡ toReceiver (resetTallied (receiverOf receiver)) ⌝ }
 {
     shown(read(receiver).reset())
 }

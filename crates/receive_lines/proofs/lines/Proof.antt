@@ -3,6 +3,7 @@
 use borrow.Author.Needs.{needs}
 use mathlib.Core.Path.{_≡_}
 use Prim.Native.Nat.{_≤_}
+use native.Mathlib.Omega.{arith}
 use lib.ListN.{length}
 use Rattle.receive_lines.proofs.lines.Statement.{statement}
 use Rattle.receive_lines.proofs.lines.Tie as tie
@@ -48,19 +49,34 @@ print-requires : tie.Need-print-requires Inv-loop μ-loop
 print-requires c κs = search needs
 
 same-length-6 : tie.Need-same-length-6 Inv-loop μ-loop
-same-length-6 c = search needs
+same-length-6 c =
+    let a = c .before .before .before .before .before .before .before .before .before .before in
+    let n = a .before .before .before .before .before .before .before .before .before .before in
+    omega (arith, n .next .kept, n .before .before .before .before .loop .inv)
 
 same-length-7 : tie.Need-same-length-7 Inv-loop μ-loop
-same-length-7 c = search needs
+same-length-7 c =
+    let a = c .before .before .before .before .before .before .before .before .before .before in
+    let n = a .before .before .before .before .before .before .before .before .before .before in
+    omega (arith, n .next .kept, n .before .before .before .before .loop .inv)
 
 same-length-8 : tie.Need-same-length-8 Inv-loop μ-loop
-same-length-8 c = search needs
+same-length-8 c =
+    let a = c .before .before .before .before .before .before .before .before .before .before in
+    let n = a .before .before .before .before .before .before .before .before .before .before in
+    omega (arith, a .answer .kept, n .before .before .before .before .loop .inv)
 
 same-length-9 : tie.Need-same-length-9 Inv-loop μ-loop
-same-length-9 c = search needs
+same-length-9 c =
+    let a = c .before .before .before .before .before .before .before .before .before .before in
+    let n = a .before .before .before .before .before .before .before .before .before .before in
+    omega (arith, a .answer .kept, n .before .before .before .before .loop .inv)
 
 same-length-10 : tie.Need-same-length-10 Inv-loop μ-loop
-same-length-10 c = search needs
+same-length-10 c =
+    let a = c .before .before .before .before .before .before .before .before .before .before in
+    let n = a .before .before .before .before .before .before .before .before .before .before in
+    omega (arith, a .answer .kept, n .before .before .before .before .loop .inv)
 
 returns-2 : tie.Need-returns-2 Inv-loop μ-loop
 returns-2 c = search needs
@@ -72,7 +88,17 @@ loop-less : tie.Need-loop-less Inv-loop μ-loop
 loop-less c = search needs
 
 loop-again : tie.Need-loop-again Inv-loop μ-loop
-loop-again c = search needs
+loop-again c =
+    let a = c .before .before .before .before .before .before .before .before .before .before in
+    let n = a .before .before .before .before .before .before .before .before .before .before in
+    let l = n .before .before .before .before .loop .inv in (
+      search needs,
+      omega (arith, n .next .kept, l),
+      omega (arith, n .next .kept, l),
+      omega (arith, a .answer .kept, l),
+      omega (arith, a .answer .kept, l),
+      omega (arith, a .answer .kept, l),
+    )
 
 same-length-11 : tie.Need-same-length-11 Inv-loop μ-loop
 same-length-11 c = search needs

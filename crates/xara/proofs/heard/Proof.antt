@@ -11,26 +11,34 @@ shown-requires c κs = search needs
 enum-known-answer : tie.Need-enum-known-answer
 enum-known-answer c = search needs
 
-enum-told : tie.Need-enum-told
-enum-told c = search needs
-
-enum-told-2 : tie.Need-enum-told-2
-enum-told-2 c = search needs
+copied-requires : tie.Need-copied-requires
+copied-requires c κs = search needs
 
 enum-known-answer-2 : tie.Need-enum-known-answer-2
 enum-known-answer-2 c = search needs
 
+cause-number-requires : tie.Need-cause-number-requires
+cause-number-requires c κs = search needs
+
+enum-told : tie.Need-enum-told
+enum-told c = search needs
+
+enum-known-answer-3 : tie.Need-enum-known-answer-3
+enum-known-answer-3 c = search needs
+
 returns : tie.Need-returns
-returns c store = rw (c .before .answer .given .1) refl
+returns c store = rw (c .copied .ensures, c .before .before .answer .given .1) refl
 
 returns-2 : tie.Need-returns-2
-returns-2 c store = rw (c .before .before .shown .ensures, c .enum-told .given .1) refl
+returns-2 c store =
+    let a = c .before .before in
+    rw (c .cause-number .ensures, a .before .before .shown .ensures, a .answer2 .given .1) refl
 
 returns-3 : tie.Need-returns-3
-returns-3 c store = rw (c .before .before .shown .ensures, c .enum-told2 .given .1) refl
+returns-3 c store = rw (c .before .before .shown .ensures, c .enum-told .given .1) refl
 
 returns-4 : tie.Need-returns-4
-returns-4 c store = rw (c .before .before .before .shown .ensures, c .before .answer2 .given .1) refl
+returns-4 c store = rw (c .before .before .before .shown .ensures, c .before .answer3 .given .1) refl
 
 pub heard-spec : {M : Type 1} → statement M
 heard-spec =
@@ -38,9 +46,11 @@ heard-spec =
     (tie.spec
     shown-requires
     enum-known-answer
-    enum-told
-    enum-told-2
+    copied-requires
     enum-known-answer-2
+    cause-number-requires
+    enum-told
+    enum-known-answer-3
     returns
     returns-2
     returns-3

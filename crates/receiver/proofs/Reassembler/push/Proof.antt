@@ -1,11 +1,10 @@
 -- `Reassembler::push` meets its contract: each way out is a case of the definition.
 -- Assumes nothing.
 use borrow.Author.Needs.{needs}
-use mathlib.Core.Path.{sym, _∙_}
-use native.Mathlib.Omega.{arith}
 use borrow.Author.Tests.{not-true, not-false}
-use Rattle.refusals.proofs.LimitLaws.{field-high}
-use Rattle.receiver.proofs.PushLaws.{push-refused, push-field, push-length, push-on}
+use mathlib.Core.Path.{sym, ap, _∙_}
+use Rattle.receiver.specs.Tally.{counted}
+use Rattle.receiver.proofs.TallyLaws.{push-refuses, push-refuses-field, push-full, push-counts}
 use Rattle.receiver.proofs.Reassembler.push.Statement.{statement}
 use Rattle.receiver.proofs.Reassembler.push.Tie as tie
 
@@ -14,50 +13,51 @@ refusal-requires c κs = search needs
 
 returns : tie.Need-returns
 returns c =
-    let a = c .before .before .before .before .args in
+    let a = c .before .before .before .before .before .before .args in
     rw (c .before .refusal .ensures)
-    (sym (push-refused (a .self) (a .store .now) (a .f .now) (a .field) (λ e. c .if1 .taken (c .before .refusal .ensures ∙ e))))
+    (sym (push-refuses (a .self) (a .store .now) (a .f .now) (a .field) (λ e. c .if1 .taken (c .before .refusal .ensures ∙ e))))
 
 field-ok-requires : tie.Need-field-ok-requires
 field-ok-requires c κs = search needs
 
 returns-2 : tie.Need-returns-2
 returns-2 c =
-    let r = c .before .before .before in
-    sym (push-field _ _ _ _ (sym (r .refusal .ensures) ∙ c .before .before .if1 .left) (sym (c .before .field-ok .ensures) ∙ not-true _ (c .if2 .taken)))
+    let i1 = c .before .before in
+    sym (push-refuses-field _ _ _ _ (sym (i1 .before .refusal .ensures) ∙ i1 .if1 .left) (sym (c .before .field-ok .ensures) ∙ not-true _ (c .if2 .taken)))
 
-add-if3 : tie.Need-add-if3
-add-if3 c =
-    let field = c .before .before .before .before .before .before .args .field in
-    omega (arith, field-high field (sym (c .before .field-ok .ensures) ∙ not-false _ (c .if2 .left)))
+full-requires : tie.Need-full-requires
+full-requires c κs = search needs
 
 returns-3 : tie.Need-returns-3
 returns-3 c =
-    let e2 = c .before in
-    let r = e2 .before .before .before in
-    sym (push-length _ _ _ _ (sym (r .refusal .ensures) ∙ e2 .before .before .if1 .left) (sym (e2 .before .field-ok .ensures) ∙ not-false _ (e2 .if2 .left)) (c .if3 .taken))
+    let e2 = c .before .before in
+    let i1 = e2 .before .before in
+    sym (push-full _ _ _ _ (sym (i1 .before .refusal .ensures) ∙ i1 .if1 .left) (sym (e2 .before .field-ok .ensures) ∙ not-false _ (e2 .if2 .left)) (sym (c .before .full .ensures) ∙ c .if3 .taken))
 
-fragment-length-requires : tie.Need-fragment-length-requires
-fragment-length-requires c κs = search needs
+pushed-requires : tie.Need-pushed-requires
+pushed-requires c κs =
+    let e2 = c .before .before .before in
+    let i1 = e2 .before .before in
+    (sym (i1 .before .refusal .ensures) ∙ i1 .if1 .left, sym (e2 .before .field-ok .ensures) ∙ not-false _ (e2 .if2 .left))
 
-joined-requires : tie.Need-joined-requires
-joined-requires c κs =
-    let i1 = c .before .before .before .before .before in
-    sym (i1 .before .refusal .ensures) ∙ i1 .if1 .left
+counted-requires : tie.Need-counted-requires
+counted-requires c κs =
+    let e3 = c .before .before .before .before in
+    sym (e3 .before .full .ensures) ∙ e3 .if3 .left
 
 same-length : tie.Need-same-length
 same-length c = search needs
 
 returns-4 : tie.Need-returns-4
 returns-4 c =
-    let j = c .before .before in
-    let z = j .before .before in
-    let e3 = z .before in
-    let e2 = e3 .before in
-    let r = e2 .before .before .before in
-    j .joined .ensures
-    ∙ rw (z .fragment-length .ensures)
-    (sym (push-on _ _ _ _ (sym (r .refusal .ensures) ∙ e2 .before .before .if1 .left) (sym (e2 .before .field-ok .ensures) ∙ not-false _ (e2 .if2 .left)) (e3 .if3 .left)))
+    let j = c .before .before .before in
+    let e3 = j .before .before in
+    let e2 = e3 .before .before in
+    let i1 = e2 .before .before in
+    let a = i1 .before .before .before .before .before .before .args in
+    c .counted .ensures _
+    ∙ ap (counted (a .self .tallies)) (j .pushed .ensures)
+    ∙ sym (push-counts (a .self) (a .store .now) (a .f .now) (a .field) (sym (i1 .before .refusal .ensures) ∙ i1 .if1 .left) (sym (e2 .before .field-ok .ensures) ∙ not-false _ (e2 .if2 .left)) (sym (e3 .before .full .ensures) ∙ e3 .if3 .left))
 
 pub push-spec : {M : Type 1} → statement M
 push-spec =
@@ -67,9 +67,9 @@ push-spec =
     returns
     field-ok-requires
     returns-2
-    add-if3
+    full-requires
     returns-3
-    fragment-length-requires
-    joined-requires
+    pushed-requires
+    counted-requires
     same-length
     returns-4)

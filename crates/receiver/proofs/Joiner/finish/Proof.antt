@@ -1,4 +1,4 @@
--- `Reassembler::finish` meets its contract: each way out is a case of the definition.
+-- `Joiner::finish` meets its contract: each way out is a case of the definition.
 -- Assumes nothing.
 use borrow.Author.Needs.{needs}
 use mathlib.Core.Path.{sym, _∙_}
@@ -6,8 +6,8 @@ use native.Mathlib.Omega.{arith}
 use lib.ListN.{length-set}
 use lib.Seq.{length-take-le}
 use Rattle.receiver.proofs.JoinLaws.{finish-one, finish-good, finish-bad}
-use Rattle.receiver.proofs.Reassembler.finish.Statement.{statement}
-use Rattle.receiver.proofs.Reassembler.finish.Tie as tie
+use Rattle.receiver.proofs.Joiner.finish.Statement.{statement}
+use Rattle.receiver.proofs.Joiner.finish.Tie as tie
 
 slice-write-store : tie.Need-slice-write-store
 slice-write-store c = search needs

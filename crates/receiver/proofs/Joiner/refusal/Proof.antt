@@ -1,12 +1,12 @@
--- `Reassembler::refusal` meets its contract.
+-- `Joiner::refusal` meets its contract.
 -- Assumes nothing.
 use borrow.Author.Needs.{needs}
 use borrow.Author.Tests.{eq-eqb, ne-eqb, lt-ltb, le-ltb}
 use mathlib.Core.Path.{sym, _∙_}
 use Rattle.laws.specs.Pick.{pick}
 use Rattle.receiver.specs.Join.{refusalOf}
-use Rattle.receiver.proofs.Reassembler.refusal.Statement.{statement}
-use Rattle.receiver.proofs.Reassembler.refusal.Tie as tie
+use Rattle.receiver.proofs.Joiner.refusal.Statement.{statement}
+use Rattle.receiver.proofs.Joiner.refusal.Tie as tie
 
 returns : tie.Need-returns
 unfolding refusalOf pick

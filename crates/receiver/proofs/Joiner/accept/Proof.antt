@@ -1,12 +1,12 @@
--- `Reassembler::accept` meets its contract: each way out is a case of the definition.
+-- `Joiner::accept` meets its contract: each way out is a case of the definition.
 -- Assumes nothing.
 use borrow.Author.Needs.{needs}
 use mathlib.Core.Path.{_≡_, sym, _∙_}
 use Prim.Native.Nat.{_-_}
 use native.Mathlib.Omega.{arith}
 use Rattle.receiver.proofs.JoinLaws.{accept-over, accept-short, accept-first, accept-only, accept-next}
-use Rattle.receiver.proofs.Reassembler.accept.Statement.{statement}
-use Rattle.receiver.proofs.Reassembler.accept.Tie as tie
+use Rattle.receiver.proofs.Joiner.accept.Statement.{statement}
+use Rattle.receiver.proofs.Joiner.accept.Tie as tie
 
 shared-slice-read-first : tie.Need-shared-slice-read-first
 shared-slice-read-first c = search needs

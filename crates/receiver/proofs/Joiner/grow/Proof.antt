@@ -1,12 +1,12 @@
--- `Reassembler::grow` meets its contract: each way out is a case of the definition.
+-- `Joiner::grow` meets its contract: each way out is a case of the definition.
 -- Assumes nothing.
 use borrow.Author.Needs.{needs}
 use mathlib.Core.Path.{sym, _∙_}
 use Prim.Native.Nat.{ℕ, _+_, _-_, _≤_, _<_}
 use native.Mathlib.Omega.{arith}
 use Rattle.receiver.proofs.JoinLaws.{grow-many, grow-long, grow-more, grow-last, base-le, base-pos}
-use Rattle.receiver.proofs.Reassembler.grow.Statement.{statement}
-use Rattle.receiver.proofs.Reassembler.grow.Tie as tie
+use Rattle.receiver.proofs.Joiner.grow.Statement.{statement}
+use Rattle.receiver.proofs.Joiner.grow.Tie as tie
 
 -- what stands before the tail fits the store
 base-fits : (c : tie.After-base-of) → c .base-of .result ≤ 5000
@@ -41,8 +41,8 @@ copy-requires c κs =
     let a = c .before .before .before .before .before .before .before in
     omega (arith, base-fits a, a .before .before .before .good)
 
-add-t16 : tie.Need-add-t16
-add-t16 c = search needs
+add-t17 : tie.Need-add-t17
+add-t17 c = search needs
 
 same-length : tie.Need-same-length
 same-length c = search needs
@@ -89,7 +89,7 @@ grow-spec =
     returns-2
     head-requires
     copy-requires
-    add-t16
+    add-t17
     same-length
     returns-3
     finish-requires

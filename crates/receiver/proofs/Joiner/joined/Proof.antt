@@ -1,12 +1,12 @@
--- `Reassembler::joined` meets its contract: each way out is a case of the definition, where the state is not refused.
+-- `Joiner::joined` meets its contract: each way out is a case of the definition, where the state is not refused.
 -- Assumes nothing.
 use borrow.Author.Needs.{needs}
 use mathlib.Core.Path.{sym, _∙_}
 use native.Mathlib.Omega.{arith}
 use lib.ListN.{length}
 use Rattle.receiver.proofs.JoinLaws.{refused-none, join-empty, join-past, join-on}
-use Rattle.receiver.proofs.Reassembler.joined.Statement.{statement}
-use Rattle.receiver.proofs.Reassembler.joined.Tie as tie
+use Rattle.receiver.proofs.Joiner.joined.Statement.{statement}
+use Rattle.receiver.proofs.Joiner.joined.Tie as tie
 
 returns : tie.Need-returns
 returns c = sym (join-empty _ _ _ _ (c .before .before .before .pre) (c .if1 .taken))
