@@ -1,11 +1,18 @@
 //! The structs that are to be expected of a value or a refusal: 0 in every field that has no meaning then.
 
-use crate::xara::{Answer, Decoded, Encoded, Fresh, Heard, Pushed, Receiver, Summary};
+use crate::xara::{Answer, Decoded, Encoded, Fresh, Heard, Pushed, Receiver, Summary, Tallies};
 
 impl Answer {
     pub fn of(expected: Result<usize, u8>) -> Self {
         let (ok, refusal) = flags(&expected);
         Answer { ok, refusal, value: expected.unwrap_or_default() }
+    }
+}
+
+impl Receiver {
+    /// A receiver that holds nothing and has no check byte yet.
+    pub fn idle(crc_mask: u8, tallies: Tallies) -> Self {
+        Receiver { held: 0, nfrag: 0, count: 0, crc_mask, overflow: 0, tallies }
     }
 }
 
@@ -18,14 +25,14 @@ impl Fresh {
 
 impl Pushed {
     pub fn of(heard: Heard, receiver: Receiver) -> Self {
-        let (kind, refusal, length) = match heard {
-            Heard::Refused(refusal) => (0, refusal, 0),
-            Heard::Dropped => (1, 0, 0),
-            Heard::More => (2, 0, 0),
-            Heard::Done(length) => (3, 0, length),
-            Heard::Unknown(kind) => (kind, 0, 0),
+        let (kind, refusal, cause, length) = match heard {
+            Heard::Refused(refusal) => (0, refusal, 0, 0),
+            Heard::Dropped(cause) => (1, 0, cause as u8, 0),
+            Heard::More => (2, 0, 0, 0),
+            Heard::Done(length) => (3, 0, 0, length),
+            Heard::Unknown(kind) => (kind, 0, 0, 0),
         };
-        Pushed { kind, refusal, length, receiver }
+        Pushed { kind, refusal, cause, length, receiver }
     }
 }
 

@@ -1,11 +1,9 @@
-//! Histories of pushes, joins and resets, and states that a caller makes up.
+//! Histories of pushes, joins and resets.
 
-use crate::lent::Input;
 use crate::masks;
 use crate::receiver::Pair;
-use crate::rules::{self, Call};
 use crate::tally::{Kind, Row, Tally};
-use crate::xara::{self, Fresh, Pushed};
+use crate::xara::{self, Fresh, Tallies};
 use answers::random::Random;
 use answers::{MASKS, MAX_MESSAGE, most};
 
@@ -20,12 +18,14 @@ pub fn history(r: &mut Random, tally: &mut Tally) {
         _ => traffic(&mut pair, mask, r, tally),
     }
     pair.state(tally);
+    pair.conserved(tally);
 }
 
-/// A new receiver with any store; none where its mask is refused, or where it is not as expected.
+/// A new receiver with any store; none where its mask is refused, or where it is not as expected. Of its tallies: "a fresh receiver
+/// starts them at 0" (02, E12).
 pub fn new(kind: Kind, mask: u8, r: &mut Random, tally: &mut Tally) -> Option<Pair> {
     let ours = xara::Receiver::fresh(mask);
-    let fresh = xara::Receiver { held: 0, nfrag: 0, count: 0, crc_mask: mask, overflow: 0 };
+    let fresh = xara::Receiver::idle(mask, Tallies::of([0; 8]));
     let expected = Fresh::of(if MASKS.contains(&mask) { Ok(fresh) } else { Err(9) });
     let same = tally.compare(kind, Row::of(expected), Row::of(ours), || format!("new a {mask:02X}"));
     let fresh = ours.told().ok().filter(|_| same)?;
@@ -213,92 +213,4 @@ fn message(length: usize, r: &mut Random) -> Vec<u8> {
     }
     bytes[0] &= 0x7F;
     bytes
-}
-
-/// A state and a store that a caller made up, and a few calls on them. What is refused changes nothing, all else goes by
-/// document 01's rules.
-pub fn made_up(r: &mut Random, tally: &mut Tally) {
-    let held = [0, 1, 4_999, 5_000, r.below(5_001), r.below(5_001), 5_001, usize::MAX][r.below(8)];
-    let nfrag = [0, 1, 254, 255, r.below(256), r.below(256), 256, usize::MAX][r.below(8)];
-    let crc_mask = masks::some(r, 8);
-    let overflow = if r.below(2) == 0 { 0 } else { r.byte() };
-    let state = xara::Receiver { held, nfrag, count: r.byte(), crc_mask, overflow };
-    let size = if r.below(8) == 0 { [0, 4_999, 5_001, r.below(6_000)][r.below(4)] } else { MAX_MESSAGE };
-    let mut pair = MadeUp::new(state, r.bytes(size));
-    for _ in 0..4 {
-        let field =
-            if r.below(8) == 0 { r.one_of(&[0, 1, 2]).into() } else { [3, 5, 20, 512, 513, usize::MAX][r.below(6)] };
-        let length = if r.below(4) == 0 { r.below(20) } else { field.min(512) + 3 };
-        let f = r.bytes(length);
-        if r.below(2) == 0 {
-            pair.call(Call::Push(&f, field), tally);
-        } else {
-            pair.call(Call::Join(&f, r.below(length + 2)), tally);
-        }
-        if r.below(8) == 0 {
-            pair.reset(tally);
-        }
-    }
-}
-
-/// Every byte as a mask: of a new receiver, and of one that a caller made up, alone and with refusals before and after 9.
-pub fn all_masks(r: &mut Random, tally: &mut Tally) {
-    for mask in 0..=255 {
-        new(Kind::New, mask, r, tally);
-        join_and_push(mask, MAX_MESSAGE, 3, r, tally);
-        join_and_push(mask, MAX_MESSAGE, 2, r, tally);
-        join_and_push(mask, MAX_MESSAGE - 1, 2, r, tally);
-    }
-}
-
-/// Every length of a store to 5,001: all but 5,000 are refused with 17.
-pub fn all_stores(r: &mut Random, tally: &mut Tally) {
-    for size in 0..=MAX_MESSAGE + 1 {
-        join_and_push(r.one_of(&MASKS), size, 3, r, tally);
-    }
-}
-
-/// A join and a push of this field on a receiver that holds nothing, with a store of this size.
-fn join_and_push(crc_mask: u8, size: usize, field: usize, r: &mut Random, tally: &mut Tally) {
-    let state = xara::Receiver { held: 0, nfrag: 0, count: 0, crc_mask, overflow: 0 };
-    let mut pair = MadeUp::new(state, vec![r.byte(); size]);
-    pair.call(Call::Join(&[0x80, 0x00, 0x41], 3), tally);
-    pair.call(Call::Push(&[0x41, 0x14, 0x00, 0x00, 0x00, 0x00], field), tally);
-}
-
-/// Our receiver from a state and a store that a caller made up, and both as the rules have them.
-struct MadeUp {
-    ours: xara::Receiver,
-    store: Vec<u8>,
-    state: xara::Receiver,
-    expected: Vec<u8>,
-}
-
-impl MadeUp {
-    fn new(state: xara::Receiver, store: Vec<u8>) -> Self {
-        MadeUp { ours: state, expected: store.clone(), store, state }
-    }
-
-    fn call(&mut self, call: Call, tally: &mut Tally) {
-        let before = self.ours;
-        let mut input = Input::new(call.bytes());
-        let (answer, state) = rules::answer(self.state, &mut self.expected, call);
-        let ours = call.on(before, &mut self.store, &mut input);
-        (self.ours, self.state) = (ours.receiver, state);
-        tally.made_up(answer);
-        let expected = Row { answer: Pushed::of(answer, state), written: &self.expected, read: input.kept };
-        let ours = Row { answer: ours, written: &self.store, read: &input.lent };
-        tally.compare(Kind::MadeUp, expected, ours, || {
-            format!("{before:?}\nstore of {}, {call:02X?}", self.store.len())
-        });
-    }
-
-    fn reset(&mut self, tally: &mut Tally) {
-        let before = self.ours;
-        self.state = rules::reset(self.state);
-        self.ours = before.reset();
-        let expected = Row { answer: self.state, written: &self.expected, read: &[] };
-        let ours = Row { answer: self.ours, written: &self.store, read: &[] };
-        tally.compare(Kind::Reset, expected, ours, || format!("{before:?}"));
-    }
 }

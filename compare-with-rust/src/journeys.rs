@@ -82,6 +82,7 @@ impl Journey {
                 arrived = self.hear(&frame, &mut pair, r, tally)?.or(arrived);
             }
         }
+        pair.conserved(tally);
         arrived
     }
 

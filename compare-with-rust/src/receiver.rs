@@ -1,5 +1,6 @@
 //! One receiver of ours with its store, and the source's receiver beside it. Each call goes to both.
 
+use crate::conserved::{Answers, Balance};
 use crate::lent::Input;
 use crate::rules::{self, Call};
 use crate::tally::{Kind, Row, Tally};
@@ -12,12 +13,14 @@ pub struct Pair {
     source: answers::Receiver,
     ours: xara::Receiver,
     store: Vec<u8>,
-    /// The state as it must be, by document 01's rules; `state` compares ours with the source's own.
+    /// The state as it must be, by document 01's rules, with document 02's tallies; `state` compares ours with the source's own.
     expected: xara::Receiver,
     /// The store as it must be: every byte that no call may have written is as it was at the start.
     expected_store: Vec<u8>,
     /// All calls since the receivers were new, as requests to the oracle's line program.
     calls: Vec<Request>,
+    /// What ours answered to them.
+    answers: Answers,
 }
 
 enum Request {
@@ -29,8 +32,16 @@ enum Request {
 impl Pair {
     /// Both receivers new, with a store that holds what it holds.
     pub fn new(mask: u8, ours: xara::Receiver, store: Vec<u8>) -> Self {
-        let source = answers::Receiver::new(mask);
-        Pair { mask, source, ours, expected: ours, expected_store: store.clone(), store, calls: Vec::new() }
+        Pair {
+            mask,
+            source: answers::Receiver::new(mask),
+            ours,
+            expected: ours,
+            expected_store: store.clone(),
+            store,
+            calls: Vec::new(),
+            answers: Answers::default(),
+        }
     }
 
     pub fn held(&self) -> usize {
@@ -64,19 +75,19 @@ impl Pair {
         let mut input = Input::new(call.bytes());
         let ours = call.on(self.ours, &mut self.store, &mut input);
         let expected = self.expect(call);
+        self.answers.note(ours);
         self.ours = ours.receiver;
         self.calls.push(match call {
             Call::Push(frame, field) => Request::Push(field, frame.to_vec()),
             Call::Join(f, n) => Request::Join(n, f.to_vec()),
         });
-        tally.heard(expected.heard());
         let row = Row { answer: expected, written: &self.expected_store, read: input.kept };
         let ours = Row { answer: ours, written: &self.store, read: &input.lent };
         tally.compare(kind, row, ours, || self.told()).then_some(expected.heard())
     }
 
-    /// The source's answer, with which the rules must agree, and the state that the rules have. Into the expected store
-    /// go the bytes that the call may write. What the rules refuse does not go to the source.
+    /// The rules' answer and state. The source must agree with the answer, but for the cause, of which it says nothing. Into the
+    /// expected store go the bytes that the call may write. What the rules refuse does not go to the source.
     fn expect(&mut self, call: Call) -> Pushed {
         let (ruled, state) = rules::answer(self.expected, &mut self.expected_store, call);
         self.expected = state;
@@ -85,16 +96,16 @@ impl Pair {
             (_, Call::Push(frame, field)) => self.source.push(frame, field),
             (_, Call::Join(f, n)) => self.source.join(f, n),
         };
-        let heard = match answer {
-            Answer::Dropped => Heard::Dropped,
-            Answer::More => Heard::More,
+        let agreed = match answer {
+            Answer::Dropped => matches!(ruled, Heard::Dropped(_)),
+            Answer::More => ruled == Heard::More,
             Answer::Done(message) => {
                 self.expected_store[..message.len()].copy_from_slice(&message);
-                Heard::Done(message.len())
+                ruled == Heard::Done(message.len())
             }
         };
-        assert_eq!(heard, ruled, "the source, and document 01's rules, on {call:02X?}");
-        Pushed::of(heard, state)
+        assert!(agreed, "the source, and document 01's rules, which say {ruled:?}, on {call:02X?}");
+        Pushed::of(ruled, state)
     }
 
     pub fn reset(&mut self, tally: &mut Tally) {
@@ -108,7 +119,7 @@ impl Pair {
     }
 
     /// Our state, with the bytes held, against the source's own. An overflow may be any byte but 0 here, since a caller may
-    /// show it so.
+    /// show it so. The source has no tallies: those expected are the rules'.
     pub fn state(&self, tally: &mut Tally) {
         let source = self.source.state();
         let overflow = if source.overflow { self.ours.overflow.max(1) } else { 0 };
@@ -118,11 +129,20 @@ impl Pair {
             count: source.check,
             crc_mask: source.mask,
             overflow,
+            tallies: self.expected.tallies,
         };
         let held = self.store.get(..self.ours.held).unwrap_or_default();
         let expected = Row { answer: expected, written: &source.held, read: &[] };
         let ours = Row { answer: self.ours, written: held, read: &[] };
         tally.compare(Kind::State, expected, ours, || self.told() + "\nstate a");
+    }
+
+    /// Our tallies at the end of a history against the answers that came back since the receiver was new.
+    pub fn conserved(&self, tally: &mut Tally) {
+        let expected = self.answers.balance();
+        let ours = Balance::of(self.ours.tallies);
+        tally.conserved(expected.tallies);
+        tally.compare(Kind::Conserved, Row::of(expected), Row::of(ours), || self.told());
     }
 
     /// All calls as requests to the oracle's line program.
@@ -136,5 +156,81 @@ impl Pair {
             };
         }
         text
+    }
+}
+
+#[cfg(test)]
+mod tests {
+    use super::*;
+    use crate::histories;
+    use crate::xara::Cause;
+    use answers::hex::from_hex;
+    use answers::random::Random;
+
+    /// A new receiver under F0, and what was compared of it.
+    struct Worked {
+        pair: Pair,
+        tally: Tally,
+    }
+
+    impl Worked {
+        fn new() -> Self {
+            let mut tally = Tally::default();
+            let pair = histories::new(Kind::New, 0xF0, &mut Random::new(1, "worked"), &mut tally);
+            Worked { pair: pair.expect("the mask is accepted"), tally }
+        }
+
+        /// Our answer, which is also the source's and the rules', and our tallies, which are also the rules'.
+        fn call(&mut self, call: Call) -> (Heard, [u64; 8]) {
+            let kind = if matches!(call, Call::Push(..)) { Kind::Push } else { Kind::Join };
+            let heard = self.pair.call(kind, call, &mut self.tally).expect("both sides answer the same");
+            (heard, self.tallies())
+        }
+
+        fn push(&mut self, hex: &str, field: usize) -> (Heard, [u64; 8]) {
+            self.call(Call::Push(&from_hex(hex).expect("capital hexadecimal"), field))
+        }
+
+        fn tallies(&self) -> [u64; 8] {
+            self.pair.ours.tallies.numbers()
+        }
+    }
+
+    /// A message is heard, then frames and fragments that are dropped or refused before they are joined.
+    fn first_part(worked: &mut Worked) {
+        let none = Heard::Dropped(Cause::NoFragment);
+        assert_eq!(worked.push("C040ACB70101A38C", 5), (Heard::More, [1, 1, 0, 0, 0, 0, 0, 0]));
+        assert_eq!(worked.push("4000104014005242", 5), (Heard::Done(7), [2, 1, 1, 0, 0, 0, 0, 0]));
+        assert_eq!(worked.pair.message(7), [0x40, 0xAC, 0xB7, 0x01, 0x00, 0x10, 0x40]);
+        assert_eq!(worked.push("40", 5), (Heard::Dropped(Cause::WrongLength), [3, 1, 1, 1, 0, 0, 0, 0]));
+        assert_eq!(worked.push("40", 2), (Heard::Refused(8), [3, 1, 1, 1, 0, 0, 0, 0]));
+        assert_eq!(worked.call(Call::Join(&[0x40], 0)), (none, [4, 1, 1, 1, 1, 0, 0, 0]));
+        assert_eq!(worked.call(Call::Join(&[0x40], 2)), (none, [5, 1, 1, 1, 2, 0, 0, 0]));
+        assert_eq!(worked.call(Call::Join(&[0xC0], 1)), (none, [6, 1, 1, 1, 3, 0, 0, 0]));
+    }
+
+    /// A message whose check fails, one that is too long, and what is heard of it after that.
+    fn second_part(worked: &mut Worked) {
+        let joined = |zeros: usize| [vec![0x80, 0x00], vec![0x00; zeros]].concat();
+        let overflow = Heard::Dropped(Cause::Overflow);
+        assert_eq!(worked.push("C040ACB70101A38C", 5), (Heard::More, [7, 2, 1, 1, 3, 0, 0, 0]));
+        assert_eq!(worked.push("4000104114005242", 5), (Heard::Dropped(Cause::Check), [8, 2, 1, 1, 3, 0, 0, 1]));
+        assert_eq!(worked.call(Call::Join(&joined(4_999), 5_001)), (Heard::More, [9, 3, 1, 1, 3, 0, 0, 1]));
+        let limit = worked.call(Call::Join(&joined(5_000), 5_002));
+        assert_eq!(limit, (Heard::Dropped(Cause::Limit), [10, 3, 1, 1, 3, 0, 1, 1]));
+        assert_eq!(worked.call(Call::Join(&[0x81], 1)), (overflow, [11, 3, 1, 1, 3, 1, 1, 1]));
+        assert_eq!(worked.call(Call::Join(&[0x01], 1)), (overflow, [12, 3, 1, 1, 3, 2, 1, 1]));
+    }
+
+    #[test]
+    fn a_worked_history() {
+        let mut worked = Worked::new();
+        assert_eq!(worked.tallies(), [0; 8]);
+        first_part(&mut worked);
+        worked.pair.reset(&mut worked.tally);
+        assert_eq!(worked.tallies(), [6, 1, 1, 1, 3, 0, 0, 0]);
+        second_part(&mut worked);
+        worked.pair.conserved(&mut worked.tally);
+        assert_eq!(worked.tally.differ(), 0);
     }
 }

@@ -1,7 +1,8 @@
-//! Document 01's rules of the receiver on any state, also on one that no call leads to: there the source can't be asked.
+//! Document 01's rules of the receiver on any state, also on one that no call leads to: there the source can't be asked. With them
+//! go document 02's tallies, which the source does not have at all (E12).
 
 use crate::lent::Input;
-use crate::xara::{Heard, Pushed, Receiver};
+use crate::xara::{Cause, Heard, Pushed, Receiver, Tallies};
 use answers::{FIELDS, MASKS, MAX_MESSAGE};
 
 /// The most fragments of a message that is heard.
@@ -40,18 +41,19 @@ pub fn answer(state: Receiver, store: &mut [u8], call: Call) -> (Heard, Receiver
         return (Heard::Refused(refusal), state);
     }
     let state = Receiver { overflow: u8::from(state.overflow != 0), ..state };
-    match call {
-        Call::Push(frame, field) => join(state, store, frame, fragment_length(frame, field)),
+    let (heard, after) = match call {
+        Call::Push(frame, field) => push(state, store, frame, field),
         Call::Join(f, n) => join(state, store, f, n),
-    }
+    };
+    (heard, Receiver { tallies: counted(state.tallies, heard), ..after })
 }
 
-/// "Reset: nothing held, fragments 0, no overflow; check byte and mask are kept."
+/// "Reset: nothing held, fragments 0, no overflow; check byte and mask are kept." "Reset keeps the tallies" (02).
 pub fn reset(state: Receiver) -> Receiver {
     Receiver { held: 0, nfrag: 0, overflow: 0, ..state }
 }
 
-/// The table's order: 17, 9, 8.
+/// The table's order: 17, 9, 8. Then "27 when offered or any other tally is already the largest 64-bit number" (02).
 fn refusal(state: Receiver, size: usize, call: Call) -> Option<u8> {
     if size != MAX_MESSAGE || state.held > MAX_MESSAGE || state.nfrag > MOST_FRAGMENTS {
         return Some(17);
@@ -59,24 +61,55 @@ fn refusal(state: Receiver, size: usize, call: Call) -> Option<u8> {
     if !MASKS.contains(&state.crc_mask) {
         return Some(9);
     }
-    matches!(call, Call::Push(_, field) if !FIELDS.contains(&field)).then_some(8)
+    if matches!(call, Call::Push(_, field) if !FIELDS.contains(&field)) {
+        return Some(8);
+    }
+    state.tallies.numbers().contains(&u64::MAX).then_some(27)
 }
 
-/// "A fragment (n first bytes of f) goes by these rules, in order."
+/// "Frames offered, More, Done, and Dropped by cause: wrong length, no fragment, overflow, limit, check" (02): what is not refused
+/// counts as offered, and in the tally of its answer.
+fn counted(mut tallies: Tallies, heard: Heard) -> Tallies {
+    let answered = match heard {
+        Heard::More => &mut tallies.more,
+        Heard::Done(_) => &mut tallies.done,
+        Heard::Dropped(Cause::WrongLength) => &mut tallies.wrong_length,
+        Heard::Dropped(Cause::NoFragment) => &mut tallies.no_fragment,
+        Heard::Dropped(Cause::Overflow) => &mut tallies.overflow,
+        Heard::Dropped(Cause::Limit) => &mut tallies.limit,
+        Heard::Dropped(Cause::Check) => &mut tallies.check,
+        Heard::Refused(_) | Heard::Unknown(_) => return tallies,
+    };
+    *answered += 1;
+    tallies.offered += 1;
+    tallies
+}
+
+/// "A frame of another length is Dropped": that is a wrong length, though it has no fragment either.
+fn push(state: Receiver, store: &mut [u8], frame: &[u8], field: usize) -> (Heard, Receiver) {
+    if frame.len() != field + 3 {
+        return (Heard::Dropped(Cause::WrongLength), state);
+    }
+    join(state, store, frame, fragment_length(frame, field))
+}
+
+/// "A fragment (n first bytes of f) goes by these rules, in order." Where it is dropped, "a missing second byte, or n beyond f,
+/// counts as no fragment" (02), as n = 0 does; in overflow it is overflow; and the one that meets a limit is limit.
 fn join(state: Receiver, store: &mut [u8], f: &[u8], n: usize) -> (Heard, Receiver) {
     if n == 0 || n > f.len() {
-        return (Heard::Dropped, state);
+        return (Heard::Dropped(Cause::NoFragment), state);
     }
     if state.overflow != 0 {
-        return (Heard::Dropped, Receiver { overflow: u8::from(more(f)), ..state });
+        return (Heard::Dropped(Cause::Overflow), Receiver { overflow: u8::from(more(f)), ..state });
     }
     let first = state.held == 0;
     if first && more(f) && f.len() < 2 {
-        return (Heard::Dropped, state);
+        return (Heard::Dropped(Cause::NoFragment), state);
     }
     let count = if first && more(f) { f[1] } else { state.count };
     let Some(base) = place(state, f, n) else {
-        return (Heard::Dropped, Receiver { held: 0, nfrag: 0, count, overflow: u8::from(more(f)), ..state });
+        let left = Receiver { held: 0, nfrag: 0, count, overflow: u8::from(more(f)), ..state };
+        return (Heard::Dropped(Cause::Limit), left);
     };
     let tail = tail(state, f, n);
     store[base..base + tail.len()].copy_from_slice(tail);
@@ -88,20 +121,16 @@ fn join(state: Receiver, store: &mut [u8], f: &[u8], n: usize) -> (Heard, Receiv
     if more(f) { (Heard::More, grown) } else { finish(grown, store) }
 }
 
-/// "With two or more fragments the CRC under the mask must match the check byte, else Dropped."
+/// "With two or more fragments the CRC under the mask must match the check byte, else Dropped": that is a check.
 fn finish(state: Receiver, store: &[u8]) -> (Heard, Receiver) {
     let crc = (answers::crc(&store[..state.held]) >> 8) as u8 & state.crc_mask;
     let matches = state.nfrag < 2 || crc == state.count & state.crc_mask;
-    let heard = if matches { Heard::Done(state.held) } else { Heard::Dropped };
+    let heard = if matches { Heard::Done(state.held) } else { Heard::Dropped(Cause::Check) };
     (heard, Receiver { held: 0, ..state })
 }
 
 /// "Fragment length is field where the control byte's bit 0 is set, else the place of the last 14 in the field, else 0."
-/// A frame of another length has no fragment.
 fn fragment_length(frame: &[u8], field: usize) -> usize {
-    if frame.len() != field + 3 {
-        return 0;
-    }
     if frame[field] & 1 == 1 {
         return field;
     }
@@ -118,12 +147,8 @@ fn tail(state: Receiver, f: &[u8], n: usize) -> &[u8] {
     &f[start.min(n)..n]
 }
 
-/// Where a fragment's tail goes; none where the call changes no store byte.
+/// Where a fragment's tail goes; none at a limit: "Held plus tail over 5,000, or 255 fragments already".
 fn place(state: Receiver, f: &[u8], n: usize) -> Option<usize> {
-    let idle = n == 0 || n > f.len();
-    if idle || state.overflow != 0 || state.held == 0 && more(f) && f.len() < 2 {
-        return None;
-    }
     let base = state.held.max(1);
     let fragments = if state.held == 0 { 0 } else { state.nfrag };
     let full = base + tail(state, f, n).len() > MAX_MESSAGE || fragments >= MOST_FRAGMENTS;

@@ -1,5 +1,6 @@
 //! Rows that are spoiled on purpose, one part after the other, to see that each such change is found.
 
+use crate::conserved::Balance;
 use crate::slots::Slots;
 use crate::tally::{KINDS, Row, same};
 use crate::xara::{Answer, Decoded, Encoded, Fresh, Pushed, Receiver, Summary};
@@ -32,6 +33,18 @@ impl Field for usize {
     }
 }
 
+impl Field for u64 {
+    fn change(&mut self) {
+        *self ^= 1;
+    }
+}
+
+impl Field for u128 {
+    fn change(&mut self) {
+        *self ^= 1;
+    }
+}
+
 macro_rules! parts {
     ($type:ident: $($($field:ident).+),+) => {
         impl Parts for $type {
@@ -49,13 +62,33 @@ macro_rules! parts {
     };
 }
 
+/// The parts of a struct that has tallies: its other fields, and the way to the struct that they are in.
+macro_rules! tallies_parts {
+    ($type:ident: $($($field:ident).+),+; $($way:ident.)*) => {
+        parts!(
+            $type: $($($field).+),+, $($way.)* tallies.offered, $($way.)* tallies.more, $($way.)* tallies.done,
+            $($way.)* tallies.wrong_length, $($way.)* tallies.no_fragment, $($way.)* tallies.overflow,
+            $($way.)* tallies.limit, $($way.)* tallies.check
+        );
+    };
+}
+
+/// The parts of a struct that has a receiver: its other fields.
+macro_rules! receiver_parts {
+    ($type:ident: $($field:ident),+) => {
+        tallies_parts!(
+            $type: $($field),+, receiver.held, receiver.nfrag, receiver.count, receiver.crc_mask, receiver.overflow;
+            receiver.
+        );
+    };
+}
+
 parts!(Answer: ok, refusal, value);
 parts!(Slots: count, full, last);
-parts!(Receiver: held, nfrag, count, crc_mask, overflow);
-parts!(Fresh: ok, refusal, receiver.held, receiver.nfrag, receiver.count, receiver.crc_mask, receiver.overflow);
-parts!(
-    Pushed: kind, refusal, length, receiver.held, receiver.nfrag, receiver.count, receiver.crc_mask, receiver.overflow
-);
+tallies_parts!(Receiver: held, nfrag, count, crc_mask, overflow;);
+receiver_parts!(Fresh: ok, refusal);
+receiver_parts!(Pushed: kind, refusal, cause, length);
+tallies_parts!(Balance: sum;);
 parts!(Encoded: ok, refusal, aprs_type, length);
 parts!(Summary: ok, refusal, aprs_type, ui, digis);
 parts!(Decoded: ok, refusal, command, length);
@@ -156,11 +189,12 @@ fn spoiled<T: Parts>(row: &Row<T>, part: usize, name: &str, place: usize) -> Own
 #[cfg(test)]
 mod tests {
     use super::*;
+    use crate::xara::{Heard, Tallies};
 
     /// Every field that a struct shows has a name here, and each is changed by its number.
     fn every_field<T: Parts>(answer: T) {
         let shown = format!("{answer:?}");
-        let inner = shown.matches("receiver: ").count();
+        let inner = shown.matches("receiver: ").count() + shown.matches("tallies: ").count();
         assert_eq!(shown.matches(": ").count() - inner, T::NAMES.len(), "{shown}");
         for part in 0..T::NAMES.len() {
             let mut changed = answer;
@@ -177,7 +211,8 @@ mod tests {
         every_field(Slots { count: 3, full: 2, last: 1 });
         every_field(Receiver::default());
         every_field(Fresh::of(Err(9)));
-        every_field(Pushed::of(crate::xara::Heard::Done(7), Receiver::default()));
+        every_field(Pushed::of(Heard::Done(7), Receiver::default()));
+        every_field(Balance::of(Tallies::default()));
         every_field(Encoded::of(Ok((7, 1))));
         every_field(Summary::of(Ok((1, 7, true))));
         every_field(Decoded::of(Err(7)));

@@ -1,10 +1,11 @@
 //! Compares what is expected with what our side did, and counts.
 
 use crate::spoil::{Parts, Spoiled};
-use crate::xara::Heard;
+use crate::tallies::{self, Ends};
+use crate::xara::{Heard, Tallies};
 use std::collections::BTreeMap;
 
-/// What is compared: a call of each kind, the lengths of fragments, and states.
+/// What is compared: a call of each kind, the lengths of fragments, states, and what tallies add up to.
 #[derive(Clone, Copy)]
 pub enum Kind {
     Crc,
@@ -18,6 +19,7 @@ pub enum Kind {
     Reset,
     State,
     MadeUp,
+    Conserved,
     Encode,
     Summary,
     Decode,
@@ -28,7 +30,7 @@ pub enum Kind {
 }
 
 /// How many kinds there are.
-pub const KINDS: usize = 18;
+pub const KINDS: usize = 19;
 
 const ROWS: [&str; KINDS] = [
     "crc",
@@ -42,6 +44,7 @@ const ROWS: [&str; KINDS] = [
     "receiver reset",
     "receiver state",
     "receiver made up",
+    "receiver tallies",
     "encode",
     "summary",
     "decode",
@@ -84,11 +87,11 @@ pub struct Tally {
     compared: [u64; KINDS],
     differ: [u64; KINDS],
     spoiled: Option<Spoiled>,
-    dropped: u64,
-    more: u64,
-    done: u64,
+    histories: u64,
+    heard: [u64; tallies::NAMES.len()],
     made_up_refused: u64,
     made_up_answered: u64,
+    ends: Ends,
     every_room: u64,
     cut: BTreeMap<Result<u8, u8>, Cut>,
     several: u64,
@@ -142,22 +145,21 @@ impl Tally {
         Some((format!("{text}{found} of {KINDS} kinds of rows found where they are spoiled\n"), found == KINDS))
     }
 
-    /// Counts what pushes and joins are expected to answer.
-    pub fn heard(&mut self, heard: Heard) {
-        match heard {
-            Heard::Dropped => self.dropped += 1,
-            Heard::More => self.more += 1,
-            Heard::Done(_) => self.done += 1,
-            Heard::Refused(_) | Heard::Unknown(_) => {}
+    /// Counts the histories whose tallies were compared with the answers, and these answers.
+    pub fn conserved(&mut self, answers: Tallies) {
+        self.histories += 1;
+        for (all, more) in self.heard.iter_mut().zip(answers.numbers()) {
+            *all += more;
         }
     }
 
     /// Counts the calls on states and stores that a caller made up.
-    pub fn made_up(&mut self, heard: Heard) {
+    pub fn made_up(&mut self, before: Tallies, heard: Heard, after: Tallies) {
         match heard {
             Heard::Refused(_) => self.made_up_refused += 1,
             _ => self.made_up_answered += 1,
         }
+        self.ends.note(before, heard, after);
     }
 
     /// Counts the calls that were given every output length from 0 on.
@@ -211,6 +213,14 @@ impl Tally {
         self.unchanged_mended += u64::from(mended);
     }
 
+    /// What a run must meet and did not: each answer in the histories, and each end of each tally on made-up states.
+    pub fn unmet(&self) -> Vec<String> {
+        let heard = tallies::NAMES.iter().zip(self.heard);
+        let answers = heard.filter(|&(_, times)| times == 0).map(|(name, _)| format!("{name} in a history"));
+        let ends = self.ends.unmet().map(|words| format!("{words} for each tally at 2^64 - 1"));
+        answers.chain(ends).collect()
+    }
+
     pub fn compared(&self) -> u64 {
         self.compared.iter().sum()
     }
@@ -229,8 +239,11 @@ impl Tally {
             }
             text += "\n";
         }
-        text += &format!("pushes and joins: {} done, {} more, {} dropped\n", self.done, self.more, self.dropped);
+        let heard: Vec<_> = tallies::NAMES.iter().zip(self.heard).map(|(name, n)| format!("{n} {name}")).collect();
+        text += &format!("histories: {} from fresh, tallies held against their answers: ", self.histories);
+        text += &format!("{}\n", heard.join(", "));
         text += &format!("made up: {} answered, {} refused\n", self.made_up_answered, self.made_up_refused);
+        text += &format!("for each tally at 2^64 - 1, at least: {}\n", self.ends.told());
         text += &format!("with every output length from 0: {} calls\n", self.every_room);
         text += &format!("cut: {}\n", told_cut(&self.cut));
         text += &format!(
@@ -318,6 +331,16 @@ mod tests {
     fn a_byte_too_many() {
         assert_eq!(differ(row(1, &[2], &[]), row(1, &[2, 3], &[])), 1);
         assert_eq!(first_difference(&[2], &[2, 3]), Some(1));
+    }
+
+    /// A run must meet each answer in its histories: one that met no limit says so.
+    #[test]
+    fn an_answer_that_was_not_met() {
+        let mut tally = Tally::default();
+        tally.conserved(Tallies::of([9, 3, 1, 1, 1, 2, 0, 1]));
+        let unmet = tally.unmet();
+        let unmet: Vec<_> = unmet.iter().filter(|text| text.ends_with("in a history")).collect();
+        assert_eq!(unmet, ["limit in a history"]);
     }
 
     #[test]

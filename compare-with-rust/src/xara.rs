@@ -42,6 +42,20 @@ pub struct Control {
     pub hint: u8,
 }
 
+/// How many frames and fragments a receiver was offered and did not refuse, and how many of them had each answer.
+#[repr(C)]
+#[derive(Clone, Copy, Debug, Default, PartialEq, Eq)]
+pub struct Tallies {
+    pub offered: u64,
+    pub more: u64,
+    pub done: u64,
+    pub wrong_length: u64,
+    pub no_fragment: u64,
+    pub overflow: u64,
+    pub limit: u64,
+    pub check: u64,
+}
+
 /// A receiver's state. Any overflow but 0 is one.
 #[repr(C)]
 #[derive(Clone, Copy, Debug, Default, PartialEq, Eq)]
@@ -51,6 +65,7 @@ pub struct Receiver {
     pub count: u8,
     pub crc_mask: u8,
     pub overflow: u8,
+    pub tallies: Tallies,
 }
 
 #[repr(C)]
@@ -66,6 +81,7 @@ pub struct Fresh {
 pub struct Pushed {
     pub kind: u8,
     pub refusal: u8,
+    pub cause: u8,
     pub length: usize,
     pub receiver: Receiver,
 }
@@ -202,11 +218,21 @@ impl Receiver {
     }
 }
 
-/// What a push or a join answers; `Unknown` is no answer of document 01.
+/// Why a frame or a fragment is dropped, by its number.
+#[derive(Clone, Copy, Debug, PartialEq, Eq)]
+pub enum Cause {
+    WrongLength = 1,
+    NoFragment = 2,
+    Overflow = 3,
+    Limit = 4,
+    Check = 5,
+}
+
+/// What a push or a join answers; `Unknown` is no answer of documents 01 and 02.
 #[derive(Clone, Copy, Debug, PartialEq, Eq)]
 pub enum Heard {
     Refused(u8),
-    Dropped,
+    Dropped(Cause),
     More,
     Done(usize),
     Unknown(u8),
@@ -248,12 +274,16 @@ impl Decoded {
 
 impl Pushed {
     pub fn heard(self) -> Heard {
-        match self.kind {
-            0 => Heard::Refused(self.refusal),
-            1 => Heard::Dropped,
-            2 => Heard::More,
-            3 => Heard::Done(self.length),
-            kind => Heard::Unknown(kind),
+        match (self.kind, self.cause) {
+            (0, _) => Heard::Refused(self.refusal),
+            (1, 1) => Heard::Dropped(Cause::WrongLength),
+            (1, 2) => Heard::Dropped(Cause::NoFragment),
+            (1, 3) => Heard::Dropped(Cause::Overflow),
+            (1, 4) => Heard::Dropped(Cause::Limit),
+            (1, 5) => Heard::Dropped(Cause::Check),
+            (2, _) => Heard::More,
+            (3, _) => Heard::Done(self.length),
+            (kind, _) => Heard::Unknown(kind),
         }
     }
 }
