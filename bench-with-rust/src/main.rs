@@ -1,6 +1,7 @@
 //! Times the exported functions and the unmodified Rust on the same inputs, and prints a table.
 
 mod inputs;
+mod receivers;
 mod rows;
 mod table;
 #[allow(dead_code)]
@@ -25,7 +26,11 @@ fn main() -> ExitCode {
     rows::crc(&mut table);
     rows::fragments(&mut table);
     rows::frame(&mut table);
-    rows::push(&mut table);
+    receivers::push(&mut table);
+    receivers::join(&mut table);
+    receivers::dropped(&mut table);
+    receivers::reset(&mut table);
+    receivers::new(&mut table);
     if table.is_empty() {
         eprintln!("no row's name and bytes hold the pattern");
         return ExitCode::from(2);

@@ -1,39 +1,38 @@
 //! The rows: each call of the source beside the exported one, on the same input. Outputs of ours are made once, as a
-//! gateway holds them; the source makes its own.
+//! gateway holds them; the source makes its own. Those of the receiver are in receivers.rs.
 
 use crate::inputs::{
     Random, bad_letter, binary_frame, digipeated_frame, frame_with, long_frame, message, polled, position_frame,
     station, text_frame, wide_frame,
 };
 use crate::table::{Table, same};
-use crate::xara::{self, Decoded, Heard, Receiver};
+use crate::xara::{self, Decoded};
 use std::hint::black_box;
 use std::rc::Rc;
 use xara_arq::ax25;
-use xara_arq::kiss::{self, Command, HF_CRC_MASK, Push, Reassembler};
+use xara_arq::kiss::{self, Command, HF_CRC_MASK};
 use xara_phy::crc::crc16_genibus;
 use xara_phy::hf::frame::{Control, build_frame};
-use xara_phy::hf::level::Record;
 
 const SIZES: [usize; 3] = [60, 500, 4999];
 const LONGEST: usize = 4999;
 /// The most bytes that a message decodes to.
 const MOST_DECODED: usize = 45_764;
 /// The receiver's store.
-const STORE: usize = 5000;
+pub const STORE: usize = 5000;
 /// Text and generic 7 bit of 4,999 bytes; the position report; the other types, decoded; crc, fragments, frame and push;
 /// fragments and push under a mask of another number of check bits; the summary; calls. A row of the mended reading has the
 /// bar of the original one: the source has no such reading, so it is held against its `decode` of the same message.
 const TEXT_BAR: f64 = 5.0;
 const POSITION_BAR: f64 = 2.0;
 const TYPES_BAR: f64 = 1.0;
-const OTHER_BAR: f64 = 3.0;
+pub const OTHER_BAR: f64 = 3.0;
 const MASK_BAR: f64 = 1.0;
 const SUMMARY_BAR: f64 = 1.0;
 const CALLS_BAR: f64 = 1.0;
 
-const MARKER: u8 = 0x01;
-const CONTROL: Control = Control { reply: 1, compressed: false, hint: 2 };
+pub const MARKER: u8 = 0x01;
+pub const CONTROL: Control = Control { reply: 1, compressed: false, hint: 2 };
 const XARA_CONTROL: xara::Control = xara::Control { reply: 1, compressed: 0, hint: 2 };
 
 /// Text, Binary, generic 7 and 8 bit.
@@ -231,12 +230,12 @@ pub fn crc(table: &mut Table) {
 }
 
 /// A message to send, and what its rows have.
-struct Sending {
-    name: &'static str,
-    bar: Option<f64>,
-    field: usize,
-    mask: u8,
-    message: Rc<[u8]>,
+pub struct Sending {
+    pub name: &'static str,
+    pub bar: Option<f64>,
+    pub field: usize,
+    pub mask: u8,
+    pub message: Rc<[u8]>,
 }
 
 impl Sending {
@@ -246,7 +245,7 @@ impl Sending {
 }
 
 /// Messages of the most fragments that the masks leave room for: 17 under F0, and 129 under 80, by fields of 40 and of 3.
-fn sendings() -> [Sending; 4] {
+pub fn sendings() -> [Sending; 4] {
     let mut r = Random::new();
     [
         Sending::new("field 300", OTHER_BAR, 300, HF_CRC_MASK, message(&mut r, 4800)),
@@ -257,7 +256,7 @@ fn sendings() -> [Sending; 4] {
 }
 
 /// All fragments of the source.
-fn split(message: &[u8], field: usize, mask: u8) -> Vec<Vec<u8>> {
+pub fn split(message: &[u8], field: usize, mask: u8) -> Vec<Vec<u8>> {
     kiss::split_masked(message, kiss::count_for_field(message.len(), field), field, mask)
 }
 
@@ -304,53 +303,6 @@ pub fn frame(table: &mut Table) {
         let source = move || build_frame(black_box(field) + 3, black_box(&theirs), CONTROL, None, MARKER);
         table.add(name, field, Some(OTHER_BAR), source, move || {
             xara::frame(black_box(field), black_box(&data), XARA_CONTROL, MARKER, black_box(&mut out))
-        });
-    }
-}
-
-/// A new receiver of the source, all frames pushed.
-fn join(frames: &[Vec<u8>], level: Record, mask: u8) -> Option<Vec<u8>> {
-    let mut receiver = Reassembler::with_crc_mask(mask);
-    let mut done = None;
-    for frame in frames {
-        if let Push::Done(message) = receiver.push(frame, level) {
-            done = Some(message);
-        }
-    }
-    done
-}
-
-/// A new receiver of ours, all frames pushed; the length of the message, which is first in the store.
-fn join_ours(frames: &[Vec<u8>], field: usize, mask: u8, store: &mut [u8]) -> Result<usize, u8> {
-    let mut receiver = Receiver::fresh(mask).told()?;
-    let mut done = 0;
-    for frame in frames {
-        let pushed = receiver.push(store, frame, field);
-        receiver = pushed.receiver;
-        if let Heard::Done(n) = pushed.heard() {
-            done = n;
-        }
-    }
-    Ok(done)
-}
-
-/// All frames of a message.
-pub fn push(table: &mut Table) {
-    for Sending { name, bar, field, mask, message } in sendings() {
-        let name = format!("push {name}");
-        if !table.wants(&name, message.len()) {
-            continue;
-        }
-        let level = Record::of_field(field);
-        let framed = |f: &Vec<u8>| build_frame(field + 3, f, CONTROL, None, MARKER);
-        let frames: Rc<[Vec<u8>]> = split(&message, field, mask).iter().map(framed).collect();
-        let mut store = vec![0; STORE];
-        let n = join_ours(&frames, field, mask, &mut store).expect("the mask is accepted");
-        same(&name, &join(&frames, level, mask).expect("the message is done"), &store[..n]);
-        let theirs = Rc::clone(&frames);
-        let source = move || join(black_box(&theirs), black_box(level), black_box(mask));
-        table.add(&name, message.len(), bar, source, move || {
-            join_ours(black_box(&frames), black_box(field), black_box(mask), black_box(&mut store))
         });
     }
 }
