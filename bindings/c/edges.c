@@ -1,10 +1,10 @@
 /*
  * Every output length from 0 to one more than the answer's, every refusal's number, frames and fragments of every length, texts
  * with white space and the bytes beside it at their edges, every control byte, every mask with its longest messages and its worked
- * examples, the lengths of fragments, both readings of WIDE calls in every place, and receiver states that no call leads to. Every
- * field of every answer is looked at, flags as the bytes that they are, and every input for being unchanged. Every buffer has its
- * exact length on the heap, so that valgrind sees a byte read or written beside it. Prints how many calls were held against what
- * is to be expected; the exit status is 1 where one differs.
+ * examples, the lengths of fragments, both readings of WIDE calls in every place, receiver states that no call leads to, and
+ * tallies up to the largest 64-bit number. Every field of every answer is looked at, flags as the bytes that they are, and every
+ * input for being unchanged. Every buffer has its exact length on the heap, so that valgrind sees a byte read or written beside
+ * it. Prints how many calls were held against what is to be expected; the exit status is 1 where one differs.
  */
 #include "xara.h"
 
@@ -100,9 +100,35 @@ static bool summed_up(XaraSummary a, uint8_t refusal, uint8_t type, uint8_t ui, 
            FLAG(XaraSummary, a, ui) == ui && a.digis == digis;
 }
 
+/* The tallies by place: offered, more, done, then dropped by cause. There is no padding between them. */
+#define TALLIES 8
+_Static_assert(sizeof(XaraTallies) == TALLIES * sizeof(uint64_t), "eight tallies");
+
+/* Tallies that a caller made up. */
+static const XaraTallies few = {3, 1, 4, 1, 5, 9, 2, 6};
+
+/* A receiver whose tally at a place is this. */
+static XaraReceiver with_tally(XaraReceiver r, size_t place, uint64_t value)
+{
+    memcpy((char *)&r.tallies + place * sizeof value, &value, sizeof value);
+    return r;
+}
+
+/* A receiver that has counted one more answer of this kind, with its cause where it is dropped. */
+static XaraReceiver counted(XaraReceiver r, uint8_t kind, uint8_t cause)
+{
+    uint64_t all[TALLIES];
+    memcpy(all, &r.tallies, sizeof all);
+    all[0]++;
+    all[kind == XARA_DROPPED ? 2u + cause : kind - 1u]++;
+    memcpy(&r.tallies, all, sizeof all);
+    return r;
+}
+
 static bool same(XaraReceiver a, XaraReceiver b)
 {
-    return a.held == b.held && a.nfrag == b.nfrag && a.count == b.count && a.crc_mask == b.crc_mask && a.overflow == b.overflow;
+    return a.held == b.held && a.nfrag == b.nfrag && a.count == b.count && a.crc_mask == b.crc_mask && a.overflow == b.overflow &&
+           memcmp(&a.tallies, &b.tallies, sizeof a.tallies) == 0;
 }
 
 static bool fresh(XaraFresh a, uint8_t refusal, XaraReceiver receiver)
@@ -110,14 +136,17 @@ static bool fresh(XaraFresh a, uint8_t refusal, XaraReceiver receiver)
     return FLAG(XaraFresh, a, ok) == (refusal == 0) && a.refusal == refusal && same(a.receiver, receiver);
 }
 
-static bool pushed(XaraPushed a, uint8_t kind, uint8_t refusal, size_t length, XaraReceiver receiver)
+/* The code is that of the refusal, or of the cause where the answer is dropped; else 0. */
+static bool pushed(XaraPushed a, uint8_t kind, uint8_t code, size_t length, XaraReceiver receiver)
 {
-    return a.kind == kind && a.refusal == refusal && a.length == length && same(a.receiver, receiver);
+    return a.kind == kind && a.refusal == (kind == XARA_REFUSED ? code : 0) && a.cause == (kind == XARA_DROPPED ? code : 0) &&
+           a.length == length && same(a.receiver, receiver);
 }
 
-static bool dropped(XaraPushed a, XaraReceiver receiver)
+/* Dropped by this cause, which the tallies of the receiver have not counted. */
+static bool dropped(XaraPushed a, uint8_t cause, XaraReceiver receiver)
 {
-    return pushed(a, XARA_DROPPED, 0, 0, receiver);
+    return pushed(a, XARA_DROPPED, cause, 0, counted(receiver, XARA_DROPPED, cause));
 }
 
 /* Data of this type into every room. */
@@ -1052,17 +1081,23 @@ static void frame_refusals(void)
     not_framed(5, hint, 0, XARA_REFUSAL_CONTROL);
 }
 
-/* A push and a join on a store of so many bytes are refused with this: the state comes back as it was, and nothing is changed. */
+/*
+ * Pushes of up to 8 bytes and joins of up to 8 of 7 bytes, on a store of so many bytes, are refused with this: the state comes
+ * back as it was, and nothing is changed. All 8 bytes are a frame at field 5 that goes on.
+ */
 static void refused(XaraReceiver state, size_t size, size_t field, uint8_t refusal)
 {
-    uint8_t *store = filled(size), *frame = filled(8);
-    XaraPushed a = xara_receiver_push(state, store, size, frame, 8, field);
-    expect(pushed(a, XARA_REFUSED, refusal, 0, state), "push refused", refusal);
-    if (refusal != XARA_REFUSAL_FIELD) {
-        a = xara_receiver_join(state, store, size, frame, 8, 8);
+    static const uint8_t bytes[8] = {0xC1, 0x42, 0x43, 0x44, 0x45, 0x01, 0x47, 0x48};
+    uint8_t *store = filled(size), *frame = copied(bytes, 8);
+    for (size_t n = 0; n <= 8; n++) {
+        XaraPushed a = xara_receiver_push(state, store, size, frame, n, field);
+        expect(pushed(a, XARA_REFUSED, refusal, 0, state), "push refused", refusal);
+        if (refusal == XARA_REFUSAL_FIELD)
+            continue;
+        a = xara_receiver_join(state, store, size, frame, 7, n);
         expect(pushed(a, XARA_REFUSED, refusal, 0, state), "join refused", refusal);
     }
-    expect(untouched(store, size) && untouched(frame, 8), "bytes of a refused call", size);
+    expect(untouched(store, size) && memcmp(frame, bytes, 8) == 0, "bytes of a refused call", size);
     free(store);
     free(frame);
 }
@@ -1075,10 +1110,10 @@ static void state_refusals(void)
     for (size_t i = 0; i < 16; i++) {
         size_t more = over[i % 4];
         uint8_t flag = overflows[i / 4];
-        refused((XaraReceiver){4, 3, 2, XARA_MASK_HF, flag}, sizes[i % 4], 5, XARA_REFUSAL_STATE);
-        refused((XaraReceiver){5000 + more, 1, 9, XARA_MASK_HF, flag}, XARA_STORE, 5, XARA_REFUSAL_STATE);
-        refused((XaraReceiver){1, 255 + more, 9, XARA_MASK_FM, flag}, XARA_STORE, 5, XARA_REFUSAL_STATE);
-        refused((XaraReceiver){5000 + more, 0, 9, 0, flag}, XARA_STORE, 0, XARA_REFUSAL_STATE);
+        refused((XaraReceiver){4, 3, 2, XARA_MASK_HF, flag, few}, sizes[i % 4], 5, XARA_REFUSAL_STATE);
+        refused((XaraReceiver){5000 + more, 1, 9, XARA_MASK_HF, flag, few}, XARA_STORE, 5, XARA_REFUSAL_STATE);
+        refused((XaraReceiver){1, 255 + more, 9, XARA_MASK_FM, flag, few}, XARA_STORE, 5, XARA_REFUSAL_STATE);
+        refused((XaraReceiver){5000 + more, 0, 9, 0, flag, few}, XARA_STORE, 0, XARA_REFUSAL_STATE);
     }
 }
 
@@ -1088,12 +1123,12 @@ static void receiver_masks(void)
     for (unsigned i = 0; i < 256; i++) {
         uint8_t mask = (uint8_t)i;
         if (is_mask(mask)) {
-            expect(fresh(xara_receiver_new(mask), 0, (XaraReceiver){0, 0, 0, mask, 0}), "new", i);
+            expect(fresh(xara_receiver_new(mask), 0, (XaraReceiver){.crc_mask = mask}), "new", i);
             continue;
         }
-        expect(fresh(xara_receiver_new(mask), XARA_REFUSAL_MASK, (XaraReceiver){0, 0, 0, 0, 0}), "new refused", i);
-        refused((XaraReceiver){5000, 255, 5, mask, (uint8_t)(i * 7)}, XARA_STORE, 0, XARA_REFUSAL_MASK);
-        refused((XaraReceiver){0, 0, 0, mask, 0}, XARA_STORE, 5, XARA_REFUSAL_MASK);
+        expect(fresh(xara_receiver_new(mask), XARA_REFUSAL_MASK, (XaraReceiver){0}), "new refused", i);
+        refused((XaraReceiver){5000, 255, 5, mask, (uint8_t)(i * 7), few}, XARA_STORE, 0, XARA_REFUSAL_MASK);
+        refused((XaraReceiver){.crc_mask = mask}, XARA_STORE, 5, XARA_REFUSAL_MASK);
     }
 }
 
@@ -1103,7 +1138,7 @@ static void receiver_fields(void)
     size_t fields[] = {0, 1, 2, 513, SIZE_MAX, SIZE_MAX - 2};
     for (size_t i = 0; i < 6; i++)
         for (unsigned overflow = 0; overflow < 256; overflow++)
-            refused((XaraReceiver){7, 3, 9, XARA_MASK_FM, (uint8_t)overflow}, XARA_STORE, fields[i], XARA_REFUSAL_FIELD);
+            refused((XaraReceiver){7, 3, 9, XARA_MASK_FM, (uint8_t)overflow, few}, XARA_STORE, fields[i], XARA_REFUSAL_FIELD);
 }
 
 /* In overflow a fragment is dropped and only the overflow may end, whatever is held and whichever byte says overflow. */
@@ -1112,14 +1147,15 @@ static void overflow_states(void)
     size_t held[] = {0, 1, 4999, 5000}, nfrag[] = {0, 1, 254, 255};
     uint8_t *store = filled(XARA_STORE), *f = filled(3);
     for (unsigned i = 0; i < 16 * 255; i++) {
-        XaraReceiver state = {held[i % 4], nfrag[i / 4 % 4], 7, XARA_MASK_HF, (uint8_t)(1 + i / 16)}, after = state;
+        XaraReceiver state = {held[i % 4], nfrag[i / 4 % 4], 7, XARA_MASK_HF, (uint8_t)(1 + i / 16), few}, after = state;
         after.overflow = 1;
         f[0] = 0x80;
-        expect(dropped(xara_receiver_join(state, store, XARA_STORE, f, 3, 3), after), "overflow goes on", i);
-        expect(dropped(xara_receiver_join(state, store, XARA_STORE, f, 3, 0), after), "idle in overflow", i);
+        expect(dropped(xara_receiver_join(state, store, XARA_STORE, f, 3, 3), XARA_CAUSE_OVERFLOW, after), "overflow goes on", i);
+        expect(dropped(xara_receiver_join(state, store, XARA_STORE, f, 1, 1), XARA_CAUSE_OVERFLOW, after), "no second byte", i);
+        expect(dropped(xara_receiver_join(state, store, XARA_STORE, f, 3, 0), XARA_CAUSE_NO_FRAGMENT, after), "idle", i);
         after.overflow = 0;
         f[0] = 0x7F;
-        expect(dropped(xara_receiver_join(state, store, XARA_STORE, f, 3, 3), after), "overflow ends", i);
+        expect(dropped(xara_receiver_join(state, store, XARA_STORE, f, 3, 3), XARA_CAUSE_OVERFLOW, after), "overflow ends", i);
         after.held = after.nfrag = 0;
         expect(same(xara_receiver_reset(state), after), "reset", i);
     }
@@ -1133,14 +1169,14 @@ static void made_up(size_t held, size_t nfrag, uint8_t mask)
 {
     uint8_t *store = filled(XARA_STORE), *f = filled(3);
     f[0] = 0x80;
-    XaraReceiver state = {held, nfrag, 7, mask, 0}, full = {0, 0, 7, mask, 1};
-    XaraReceiver grown = {held + 2, nfrag + 1, 7, mask, 0}, begun = {2, 1, SENTINEL, mask, 0};
+    XaraReceiver state = {held, nfrag, 7, mask, 0, few}, full = {0, 0, 7, mask, 1, few};
+    XaraReceiver grown = {held + 2, nfrag + 1, 7, mask, 0, few}, begun = {2, 1, SENTINEL, mask, 0, few};
     bool over = held != 0 && (nfrag == 255 || held > 4998);
     XaraPushed a = xara_receiver_join(state, store, XARA_STORE, f, 3, 3);
     if (over)
-        expect(dropped(a, full) && untouched(store, XARA_STORE), "full", held);
+        expect(dropped(a, XARA_CAUSE_LIMIT, full) && untouched(store, XARA_STORE), "full", held);
     else
-        expect(pushed(a, XARA_MORE, 0, 0, held == 0 ? begun : grown), "made up", held);
+        expect(pushed(a, XARA_MORE, 0, 0, counted(held == 0 ? begun : grown, XARA_MORE, 0)), "made up", held);
     expect(f[0] == 0x80 && untouched(f + 1, 2), "fragment", held);
     free(store);
     free(f);
@@ -1156,15 +1192,18 @@ static void made_up_states(void)
 /* Frames of every length but the right one are dropped; of that one, too, where they hold no fragment. */
 static void frame_lengths(void)
 {
-    XaraReceiver state = {9, 2, 3, XARA_MASK_FM, 0};
+    XaraReceiver state = {9, 2, 3, XARA_MASK_FM, 0, few};
     uint8_t *store = filled(XARA_STORE);
     for (size_t n = 0; n <= 40; n++) {
         uint8_t *frame = filled(n), *kept = filled(n);
         memset(frame, 0, n);
         memset(kept, 0, n);
-        expect(dropped(xara_receiver_push(state, store, XARA_STORE, frame, n, 30), state), "frame of another length", n);
-        expect(dropped(xara_receiver_join(state, store, XARA_STORE, frame, n, n + 1), state), "beyond the fragment", n);
-        expect(dropped(xara_receiver_join(state, store, XARA_STORE, frame, n, 0), state), "no fragment", n);
+        uint8_t cause = n == 30 + XARA_FRAME_EXTRA ? XARA_CAUSE_NO_FRAGMENT : XARA_CAUSE_WRONG_LENGTH;
+        expect(dropped(xara_receiver_push(state, store, XARA_STORE, frame, n, 30), cause, state), "frame of this length", n);
+        XaraPushed beyond = xara_receiver_join(state, store, XARA_STORE, frame, n, n + 1);
+        expect(dropped(beyond, XARA_CAUSE_NO_FRAGMENT, state), "beyond the fragment", n);
+        XaraPushed none = xara_receiver_join(state, store, XARA_STORE, frame, n, 0);
+        expect(dropped(none, XARA_CAUSE_NO_FRAGMENT, state), "no fragment", n);
         expect(memcmp(frame, kept, n) == 0, "frame", n);
         free(frame);
         free(kept);
@@ -1173,27 +1212,32 @@ static void frame_lengths(void)
     free(store);
 }
 
+/* The two frames of document 01's message at field 5. */
+#define FIRST {0xC0, 0x40, 0xAC, 0xB7, 0x01, 0x01, 0xA3, 0x8C}
+#define LAST {0x40, 0x00, 0x10, 0x40, 0x14, 0x00, 0x52, 0x42}
+#define LAST_DAMAGED {0x40, 0x00, 0x10, 0x41, 0x14, 0x00, 0x52, 0x42}
+
 /* A message of two fragments is done; heard again with another check byte it is dropped. One fragment alone is always done. */
 static void whole_messages(void)
 {
-    static const uint8_t sent[2][8] = {{0xC0, 0x40, 0xAC, 0xB7, 0x01, 0x01, 0xA3, 0x8C},
-                                       {0x40, 0x00, 0x10, 0x40, 0x14, 0x00, 0x52, 0x42}};
+    static const uint8_t sent[2][8] = {FIRST, LAST};
     static const uint8_t message[] = {0x40, 0xAC, 0xB7, 0x01, 0x00, 0x10, 0x40};
     uint8_t *store = filled(XARA_STORE), *first = copied(sent[0], 8), *last = copied(sent[1], 8);
     XaraReceiver state = xara_receiver_new(XARA_MASK_HF).receiver;
     XaraPushed a = xara_receiver_push(state, store, XARA_STORE, first, 8, 5);
-    expect(pushed(a, XARA_MORE, 0, 0, (XaraReceiver){4, 1, 0x40, XARA_MASK_HF, 0}), "first fragment", 0);
+    expect(pushed(a, XARA_MORE, 0, 0, (XaraReceiver){4, 1, 0x40, XARA_MASK_HF, 0, {1, 1, 0, 0, 0, 0, 0, 0}}), "first fragment", 0);
     a = xara_receiver_push(a.receiver, store, XARA_STORE, last, 8, 5);
-    expect(pushed(a, XARA_DONE, 0, 7, (XaraReceiver){0, 2, 0x40, XARA_MASK_HF, 0}), "last fragment", 0);
+    expect(pushed(a, XARA_DONE, 0, 7, (XaraReceiver){0, 2, 0x40, XARA_MASK_HF, 0, {2, 1, 1, 0, 0, 0, 0, 0}}), "last fragment", 0);
     expect(written(store, XARA_STORE, message, sizeof message), "message", 0);
     expect(memcmp(first, sent[0], 8) == 0 && memcmp(last, sent[1], 8) == 0, "frames", 0);
     a = xara_receiver_push(a.receiver, store, XARA_STORE, last, 8, 5);
-    expect(pushed(a, XARA_DONE, 0, 4, (XaraReceiver){0, 1, 0x40, XARA_MASK_HF, 0}), "last fragment alone", 0);
+    expect(pushed(a, XARA_DONE, 0, 4, (XaraReceiver){0, 1, 0x40, XARA_MASK_HF, 0, {3, 1, 2, 0, 0, 0, 0, 0}}), "last one alone", 0);
     first[1] ^= 0x80;
     a = xara_receiver_push(a.receiver, store, XARA_STORE, first, 8, 5);
-    expect(pushed(a, XARA_MORE, 0, 0, (XaraReceiver){4, 1, 0xC0, XARA_MASK_HF, 0}), "another check byte", 0);
+    expect(pushed(a, XARA_MORE, 0, 0, (XaraReceiver){4, 1, 0xC0, XARA_MASK_HF, 0, {4, 2, 2, 0, 0, 0, 0, 0}}), "check byte", 0);
     a = xara_receiver_push(a.receiver, store, XARA_STORE, last, 8, 5);
-    expect(dropped(a, (XaraReceiver){0, 2, 0xC0, XARA_MASK_HF, 0}), "another check byte", 1);
+    XaraReceiver after = {0, 2, 0xC0, XARA_MASK_HF, 0, {5, 2, 2, 0, 0, 0, 0, 1}};
+    expect(pushed(a, XARA_DROPPED, XARA_CAUSE_CHECK, 0, after), "check byte", 1);
     free(store);
     free(first);
     free(last);
@@ -1223,12 +1267,15 @@ static void mask_journey(const uint8_t *message, size_t n, uint8_t mask)
     size_t count = n / 2;
     uint8_t check = (uint8_t)((count - 2) | (xara_crc16_genibus(lent, n) >> 8 & mask));
     XaraPushed a = heard(lent, n, mask, 0, store);
-    expect(pushed(a, XARA_DONE, 0, n, (XaraReceiver){0, count, check, mask, 0}), "journey", mask);
+    XaraTallies whole = {.offered = count, .more = count - 1, .done = 1};
+    expect(pushed(a, XARA_DONE, 0, n, (XaraReceiver){0, count, check, mask, 0, whole}), "journey", mask);
     expect(written(store, XARA_STORE, message, n), "journey's message", mask);
     for (unsigned bit = 1; bit < 256; bit *= 2) {
-        XaraReceiver after = {0, count, (uint8_t)(check ^ bit), mask, 0};
+        bool found = mask & bit;
+        XaraTallies tallies = {.offered = count, .more = count - 1, .done = !found, .check = found};
+        XaraReceiver after = {0, count, (uint8_t)(check ^ bit), mask, 0, tallies};
         a = heard(lent, n, mask, (uint8_t)bit, store);
-        expect(mask & bit ? dropped(a, after) : pushed(a, XARA_DONE, 0, n, after), "changed check byte", bit);
+        expect(found ? pushed(a, XARA_DROPPED, XARA_CAUSE_CHECK, 0, after) : pushed(a, XARA_DONE, 0, n, after), "check byte", bit);
     }
     expect(memcmp(lent, message, n) == 0, "message to send", mask);
     free(lent);
@@ -1246,11 +1293,13 @@ static void most_heard(uint8_t mask)
     XaraPushed a = xara_receiver_join(xara_receiver_new(mask).receiver, store, XARA_STORE, f, 3, 3);
     f[1] = SENTINEL;
     for (size_t k = 1; k < XARA_RX_MAX_FRAGMENTS; k++) {
-        expect(pushed(a, XARA_MORE, 0, 0, (XaraReceiver){k + 1, k, check, mask, 0}), "one of many", k);
+        XaraTallies tallies = {.offered = k, .more = k};
+        expect(pushed(a, XARA_MORE, 0, 0, (XaraReceiver){k + 1, k, check, mask, 0, tallies}), "one of many", k);
         f[0] = k + 1 < XARA_RX_MAX_FRAGMENTS ? 0xC0 : 0x40;
         a = xara_receiver_join(a.receiver, store, XARA_STORE, f, 3, 2);
     }
-    expect(pushed(a, XARA_DONE, 0, 256, (XaraReceiver){0, XARA_RX_MAX_FRAGMENTS, check, mask, 0}), "last of many", mask);
+    XaraReceiver after = {0, XARA_RX_MAX_FRAGMENTS, check, mask, 0, {.offered = 255, .more = 254, .done = 1}};
+    expect(pushed(a, XARA_DONE, 0, 256, after), "last of many", mask);
     expect(written(store, XARA_STORE, message, XARA_RX_MAX_FRAGMENTS + 1), "message of many", mask);
     free(message);
     free(store);
@@ -1269,6 +1318,189 @@ static void mask_journeys(void)
         mask_journey(message, 2 * most, masks[i].mask);
         most_heard(masks[i].mask);
     }
+}
+
+/* A push at a field, a join of n bytes or a reset, and what is to come of it. The bytes that it lends are these, then zeros. */
+typedef struct {
+    enum { PUSH, JOIN, RESET } call;
+    size_t number, length; /* the field or n, and how many bytes are lent */
+    uint8_t front[8];
+    uint8_t kind, code; /* of the refusal or of the cause */
+    size_t done;        /* the length of the message */
+    XaraReceiver after;
+} Step;
+
+/* What a call answers. A reset answers nothing: its receiver is put in the place of an answer. */
+static XaraPushed answer_to(const Step *s, XaraReceiver r, uint8_t *store)
+{
+    uint8_t *kept = filled(s->length);
+    memset(kept, 0, s->length);
+    memcpy(kept, s->front, s->length < sizeof s->front ? s->length : sizeof s->front);
+    uint8_t *lent = copied(kept, s->length);
+    XaraPushed a = {.receiver = r};
+    if (s->call == PUSH)
+        a = xara_receiver_push(r, store, XARA_STORE, lent, s->length, s->number);
+    else if (s->call == JOIN)
+        a = xara_receiver_join(r, store, XARA_STORE, lent, s->length, s->number);
+    else
+        a.receiver = xara_receiver_reset(r);
+    expect(memcmp(lent, kept, s->length) == 0, "bytes of a step", s->length);
+    free(kept);
+    free(lent);
+    return a;
+}
+
+/* The store is unchanged but by fragments that are taken in and by a last one, which puts its first byte to the front. */
+static bool may_write(const Step *s)
+{
+    return s->kind == XARA_MORE || s->kind == XARA_DONE || (s->kind == XARA_DROPPED && s->code == XARA_CAUSE_CHECK);
+}
+
+/* Worked examples of the tallies, one after the other from a new receiver on. */
+#define STEPS 14
+static const Step steps[STEPS] = {
+    {PUSH, 5, 8, FIRST, XARA_MORE, 0, 0, {4, 1, 0x40, 0xF0, 0, {1, 1, 0, 0, 0, 0, 0, 0}}},
+    {PUSH, 5, 8, LAST, XARA_DONE, 0, 7, {0, 2, 0x40, 0xF0, 0, {2, 1, 1, 0, 0, 0, 0, 0}}},
+    {PUSH, 5, 1, {0x40}, XARA_DROPPED, XARA_CAUSE_WRONG_LENGTH, 0, {0, 2, 0x40, 0xF0, 0, {3, 1, 1, 1, 0, 0, 0, 0}}},
+    {PUSH, 2, 1, {0x40}, XARA_REFUSED, XARA_REFUSAL_FIELD, 0, {0, 2, 0x40, 0xF0, 0, {3, 1, 1, 1, 0, 0, 0, 0}}},
+    {JOIN, 0, 1, {0x40}, XARA_DROPPED, XARA_CAUSE_NO_FRAGMENT, 0, {0, 2, 0x40, 0xF0, 0, {4, 1, 1, 1, 1, 0, 0, 0}}},
+    {JOIN, 2, 1, {0x40}, XARA_DROPPED, XARA_CAUSE_NO_FRAGMENT, 0, {0, 2, 0x40, 0xF0, 0, {5, 1, 1, 1, 2, 0, 0, 0}}},
+    {JOIN, 1, 1, {0xC0}, XARA_DROPPED, XARA_CAUSE_NO_FRAGMENT, 0, {0, 2, 0x40, 0xF0, 0, {6, 1, 1, 1, 3, 0, 0, 0}}},
+    {RESET, 0, 0, {0}, 0, 0, 0, {0, 0, 0x40, 0xF0, 0, {6, 1, 1, 1, 3, 0, 0, 0}}},
+    {PUSH, 5, 8, FIRST, XARA_MORE, 0, 0, {4, 1, 0x40, 0xF0, 0, {7, 2, 1, 1, 3, 0, 0, 0}}},
+    {PUSH, 5, 8, LAST_DAMAGED, XARA_DROPPED, XARA_CAUSE_CHECK, 0, {0, 2, 0x40, 0xF0, 0, {8, 2, 1, 1, 3, 0, 0, 1}}},
+    {JOIN, 5001, 5001, {0x80}, XARA_MORE, 0, 0, {5000, 1, 0x00, 0xF0, 0, {9, 3, 1, 1, 3, 0, 0, 1}}},
+    {JOIN, 5002, 5002, {0x80}, XARA_DROPPED, XARA_CAUSE_LIMIT, 0, {0, 0, 0x00, 0xF0, 1, {10, 3, 1, 1, 3, 0, 1, 1}}},
+    {JOIN, 1, 1, {0x81}, XARA_DROPPED, XARA_CAUSE_OVERFLOW, 0, {0, 0, 0x00, 0xF0, 1, {11, 3, 1, 1, 3, 1, 1, 1}}},
+    {JOIN, 1, 1, {0x01}, XARA_DROPPED, XARA_CAUSE_OVERFLOW, 0, {0, 0, 0x00, 0xF0, 0, {12, 3, 1, 1, 3, 2, 1, 1}}},
+};
+
+static void tally_examples(void)
+{
+    static const uint8_t message[] = {0x40, 0xAC, 0xB7, 0x01, 0x00, 0x10, 0x40};
+    uint8_t *store = filled(XARA_STORE);
+    XaraReceiver receiver = xara_receiver_new(XARA_MASK_HF).receiver;
+    for (size_t i = 0; i < STEPS; i++) {
+        uint8_t *kept = copied(store, XARA_STORE);
+        XaraPushed a = answer_to(&steps[i], receiver, store);
+        expect(pushed(a, steps[i].kind, steps[i].code, steps[i].done, steps[i].after), "step", i);
+        expect(may_write(&steps[i]) || memcmp(store, kept, XARA_STORE) == 0, "store of a step", i);
+        expect(steps[i].kind != XARA_DONE || memcmp(store, message, sizeof message) == 0, "message of a step", i);
+        receiver = a.receiver;
+        free(kept);
+    }
+    free(store);
+}
+
+/* Worked examples with a full tally, which is refused with 27 after 17, 9 and 8, and with one that takes a last message. */
+static void tally_limits(void)
+{
+    static const Step done = {JOIN, 1, 1, {0x01}, XARA_DONE, 0, 1, {0, 1, 0x00, 0xF0, 0, {UINT64_MAX, 0, 1, 0, 0, 0, 0, 0}}};
+    XaraReceiver full = {.crc_mask = XARA_MASK_HF, .tallies = {.check = UINT64_MAX}};
+    refused(full, XARA_STORE, 5, XARA_REFUSAL_TALLY);
+    refused(full, XARA_STORE, 2, XARA_REFUSAL_FIELD);
+    full.crc_mask = 0xF1;
+    refused(full, XARA_STORE, 2, XARA_REFUSAL_MASK);
+    full.nfrag = 256;
+    refused(full, XARA_STORE, 2, XARA_REFUSAL_STATE);
+    XaraReceiver near = {.crc_mask = XARA_MASK_HF, .tallies = {.offered = UINT64_MAX - 1}};
+    uint8_t *store = filled(XARA_STORE);
+    XaraPushed a = answer_to(&done, near, store);
+    expect(pushed(a, done.kind, done.code, done.done, done.after), "last message", 0);
+    refused(a.receiver, XARA_STORE, 5, XARA_REFUSAL_TALLY);
+    free(store);
+}
+
+/* Every set of the four faults, with each tally that may be full: 17 comes first, then 9, 8 and 27. A join has no field. */
+static void refusal_order(void)
+{
+    for (size_t i = 0; i < 16 * TALLIES; i++) {
+        bool over = i & 8, mask = i & 4, field = i & 2, full = i & 1;
+        XaraReceiver state = {over ? 5001 : 5, 2, 3, mask ? 0xF1 : XARA_MASK_HF, 7, few};
+        if (full)
+            state = with_tally(state, i / 16, UINT64_MAX);
+        if (over || mask || field)
+            refused(state, XARA_STORE, field ? 513 : 5, over ? XARA_REFUSAL_STATE : mask ? XARA_REFUSAL_MASK : XARA_REFUSAL_FIELD);
+        if (full && !over && !mask)
+            refused(state, XARA_STORE, 5, XARA_REFUSAL_TALLY);
+    }
+}
+
+/* Each tally alone that is full, whatever the state: 27, and 27 after a reset, which keeps it. */
+static void full_tallies(void)
+{
+    XaraReceiver states[] = {
+        {0, 0, 0, 0xF0, 0, few}, {4, 1, 64, 0xF8, 0, few}, {0, 0, 9, 0x80, 7, few}, {5000, 255, 9, 0xFE, 0, few}};
+    for (size_t i = 0; i < 4 * TALLIES; i++) {
+        XaraReceiver state = with_tally(states[i % 4], i / 4, UINT64_MAX), after = state;
+        refused(state, XARA_STORE, 5, XARA_REFUSAL_TALLY);
+        after.held = after.nfrag = after.overflow = 0;
+        expect(same(xara_receiver_reset(state), after), "reset of a full receiver", i);
+        refused(after, XARA_STORE, 5, XARA_REFUSAL_TALLY);
+    }
+}
+
+/* A call for each answer, the state that it meets, and the one after it. Neither has counted anything. */
+#define ANSWERS 7
+static const struct {
+    XaraReceiver before;
+    Step step;
+} answers[ANSWERS] = {
+    {{.crc_mask = 0xF0}, {JOIN, 3, 3, {0xC1, 0x42}, XARA_MORE, 0, 0, {2, 1, 0x42, 0xF0, 0, {0}}}},
+    {{.crc_mask = 0xF0}, {JOIN, 1, 1, {0x01}, XARA_DONE, 0, 1, {0, 1, 0, 0xF0, 0, {0}}}},
+    {{5, 2, 3, 0xF0, 0, {0}}, {PUSH, 5, 7, {0x40}, XARA_DROPPED, XARA_CAUSE_WRONG_LENGTH, 0, {5, 2, 3, 0xF0, 0, {0}}}},
+    {{5, 2, 3, 0xF0, 0, {0}}, {PUSH, 5, 8, {0x40}, XARA_DROPPED, XARA_CAUSE_NO_FRAGMENT, 0, {5, 2, 3, 0xF0, 0, {0}}}},
+    {{5, 2, 3, 0xF0, 1, {0}}, {PUSH, 5, 8, {0xC0, 0, 0, 0, 0, 1}, XARA_DROPPED, XARA_CAUSE_OVERFLOW, 0, {5, 2, 3, 0xF0, 1, {0}}}},
+    {{5000, 1, 3, 0xF0, 0, {0}}, {JOIN, 2, 2, {0xC0}, XARA_DROPPED, XARA_CAUSE_LIMIT, 0, {0, 0, 3, 0xF0, 1, {0}}}},
+    {{2, 1, 0, 0xF0, 0, {0}}, {JOIN, 1, 1, {0x01}, XARA_DROPPED, XARA_CAUSE_CHECK, 0, {0, 2, 0, 0xF0, 0, {0}}}},
+};
+
+static bool is_full(XaraTallies t)
+{
+    uint64_t all[TALLIES];
+    memcpy(all, &t, sizeof all);
+    for (size_t i = 0; i < TALLIES; i++)
+        if (all[i] == UINT64_MAX)
+            return true;
+    return false;
+}
+
+/* An answer is counted in tallies that are not full. The next call is refused where that has made one full, else it is counted. */
+static void counted_once(size_t which, XaraTallies tallies)
+{
+    static const Step none = {.call = JOIN};
+    const Step *s = &answers[which].step;
+    uint8_t *store = filled(XARA_STORE);
+    XaraReceiver before = answers[which].before, after = s->after;
+    before.tallies = after.tallies = tallies;
+    after = counted(after, s->kind, s->code);
+    XaraPushed a = answer_to(s, before, store);
+    expect(pushed(a, s->kind, s->code, s->done, after), "counted", which);
+    if (is_full(after.tallies))
+        refused(a.receiver, XARA_STORE, 5, XARA_REFUSAL_TALLY);
+    else
+        expect(dropped(answer_to(&none, a.receiver, store), XARA_CAUSE_NO_FRAGMENT, after), "counted again", which);
+    free(store);
+}
+
+/* Each answer with each tally alone that can take just one more, and with all eight. */
+static void last_of_each(void)
+{
+    const uint64_t most = UINT64_MAX - 1;
+    XaraReceiver some = {.tallies = few}, all = {.tallies = {most, most, most, most, most, most, most, most}};
+    for (size_t i = 0; i < ANSWERS * (TALLIES + 1); i++) {
+        size_t place = i / ANSWERS;
+        counted_once(i % ANSWERS, (place < TALLIES ? with_tally(some, place, most) : all).tallies);
+    }
+}
+
+static void tally_edges(void)
+{
+    tally_examples();
+    tally_limits();
+    refusal_order();
+    full_tallies();
+    last_of_each();
 }
 
 int main(void)
@@ -1306,6 +1538,7 @@ int main(void)
     frame_lengths();
     whole_messages();
     mask_journeys();
+    tally_edges();
     printf("%lu compared, %lu differ\n", calls, wrong);
     return wrong != 0;
 }

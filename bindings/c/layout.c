@@ -3,6 +3,10 @@
 
 #include <stdio.h>
 
+_Static_assert(sizeof(XaraTallies) == 64 && sizeof(XaraReceiver) == 88, "the sizes that the header tells");
+_Static_assert(sizeof(XaraFresh) == 96 && sizeof(XaraPushed) == 104, "the sizes that the header tells");
+_Static_assert(offsetof(XaraReceiver, tallies) == 24 && offsetof(XaraPushed, cause) == 2, "after the fields that stood there");
+
 #define SIZE(type) printf(#type " %zu %zu\n", sizeof(type), _Alignof(type))
 #define PLACE(type, field) printf(#type "." #field " %zu %zu\n", offsetof(type, field), sizeof(((type *)0)->field))
 
@@ -12,12 +16,22 @@ static void arguments(void)
     PLACE(XaraControl, reply);
     PLACE(XaraControl, compressed);
     PLACE(XaraControl, hint);
+    SIZE(XaraTallies);
+    PLACE(XaraTallies, offered);
+    PLACE(XaraTallies, more);
+    PLACE(XaraTallies, done);
+    PLACE(XaraTallies, wrong_length);
+    PLACE(XaraTallies, no_fragment);
+    PLACE(XaraTallies, overflow);
+    PLACE(XaraTallies, limit);
+    PLACE(XaraTallies, check);
     SIZE(XaraReceiver);
     PLACE(XaraReceiver, held);
     PLACE(XaraReceiver, nfrag);
     PLACE(XaraReceiver, count);
     PLACE(XaraReceiver, crc_mask);
     PLACE(XaraReceiver, overflow);
+    PLACE(XaraReceiver, tallies);
 }
 
 static void answers(void)
@@ -33,6 +47,7 @@ static void answers(void)
     SIZE(XaraPushed);
     PLACE(XaraPushed, kind);
     PLACE(XaraPushed, refusal);
+    PLACE(XaraPushed, cause);
     PLACE(XaraPushed, length);
     PLACE(XaraPushed, receiver);
     SIZE(XaraEncoded);

@@ -1,6 +1,10 @@
-/* Sends a position report through all calls, hears it whole, then with a frame lost and sent again. */
+/*
+ * Sends a position report through all calls, hears it whole, then with a frame lost and sent again, and shows where the frames
+ * went.
+ */
 #include "xara.h"
 
+#include <inttypes.h>
 #include <stdio.h>
 #include <stdlib.h>
 #include <string.h>
@@ -87,6 +91,8 @@ static size_t transmit(XaraReceiver *receiver, uint8_t *store, const uint8_t *me
             continue;
         XaraPushed pushed = xara_receiver_push(*receiver, store, XARA_STORE, sent, length, FIELD);
         printf("%-9s%s\n", "", heard(&pushed));
+        if (pushed.kind == XARA_DROPPED)
+            printf("%-9s%s\n", "", xara_cause_text(pushed.cause));
         *receiver = pushed.receiver;
         done = pushed.kind == XARA_DONE ? pushed.length : 0;
     }
@@ -105,6 +111,13 @@ static void arrive(const uint8_t *store, size_t done, const uint8_t *data, size_
         fprintf(stderr, "what arrived is not what was sent\n");
         exit(1);
     }
+}
+
+static void show_tallies(XaraTallies t)
+{
+    printf("\noffered %" PRIu64 ", more %" PRIu64 ", done %" PRIu64 ", dropped: ", t.offered, t.more, t.done);
+    printf("%" PRIu64 " wrong length, %" PRIu64 " no fragment, ", t.wrong_length, t.no_fragment);
+    printf("%" PRIu64 " overflow, %" PRIu64 " limit, %" PRIu64 " check\n", t.overflow, t.limit, t.check);
 }
 
 int main(void)
@@ -131,6 +144,7 @@ int main(void)
         return 1;
     done = transmit(&receiver, store, message, coded.length, count.value, count.value);
     arrive(store, done, data, n);
+    show_tallies(receiver.tallies);
 
     XaraAnswer refused = xara_fragment(message, coded.length, 2, XARA_MASK_HF, 0, store, sizeof store);
     printf("\nfield 2: refused %d: %s\n", refused.refusal, xara_refusal_text(refused.refusal));

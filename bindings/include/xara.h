@@ -4,6 +4,10 @@
  * Link libxara.a, which `rt staticlib xara` writes to target/staticlib. It is for x86-64 Linux, needs no other library than C's,
  * allocates nothing and keeps nothing between calls: threads may call it at once, each with its own outputs and stores.
  *
+ * Compile a program with the header of the archive that it is linked with. XaraReceiver, XaraFresh and XaraPushed cross by value
+ * and are larger here than in an archive without tallies: a program that was compiled with the header of such an archive must be
+ * compiled again with this one.
+ *
  * A report travels one way:
  *
  *   data -> xara_encode -> message -> xara_fragment -> fragments -> xara_build_frame -> frames -> the air
@@ -37,7 +41,8 @@
  *   first byte is below 80 (hexadecimal, as all bytes here are);
  * - the frames of the message arrive in order, undamaged and complete, each once;
  * - only idle calls stand between them: calls that are refused, frames of another length than field + 3, and frames or fragments
- *   of no bytes.
+ *   of no bytes;
+ * - all pushes and joins since the receiver was new, those of the message included, are fewer than 2^64: no tally is full then.
  *
  * What the air can still do, since the format leaves no room to find it out:
  * - A frame that is lost may go unnoticed. The first of several fragments carries check bits of the whole message, as many as the
@@ -113,7 +118,7 @@ enum xara_aprs_type {
     XARA_THIRD_PARTY = 6
 };
 
-/* Why a call refuses. Nothing is changed then. */
+/* Why a call refuses. Nothing is changed then. The numbers 18 to 26 are not in use. */
 enum xara_refusal {
     XARA_REFUSAL_COMMAND = 1,     /* the command is not 0, 1 or 2 */
     XARA_REFUSAL_TOO_LONG = 2,    /* data over 4,999 bytes, or a message over 5,000 */
@@ -131,15 +136,30 @@ enum xara_refusal {
     XARA_REFUSAL_FRAGMENT = 14,   /* the fragment to frame is empty or longer than the field */
     XARA_REFUSAL_MARKER = 15,     /* the marker is 14 */
     XARA_REFUSAL_CONTROL = 16,    /* the reply is over 3 or the hint over 7 */
-    XARA_REFUSAL_STATE = 17       /* the store has not 5,000 bytes, or the state holds over 5,000 or counts over 255 */
+    XARA_REFUSAL_STATE = 17,      /* the store has not 5,000 bytes, or the state holds over 5,000 or counts over 255 */
+    XARA_REFUSAL_TALLY = 27       /* a tally is already the largest 64-bit number */
 };
 
 /* What a push or a join answers. */
 enum xara_kind {
     XARA_REFUSED = 0, /* nothing is changed, in the receiver and in the store */
-    XARA_DROPPED = 1, /* the frame or fragment is lost */
+    XARA_DROPPED = 1, /* the frame or fragment is lost, and `cause` says why */
     XARA_MORE = 2,    /* the message goes on */
     XARA_DONE = 3     /* the message is the first `length` bytes of the store */
+};
+
+/*
+ * Why a push or a join drops a frame or a fragment. There is no fragment where a frame of field + 3 bytes holds none, and where
+ * the n of a join is 0 or over f_len. The second byte of a first fragment is its check byte: a join of a single byte of 80 or more
+ * has none, which matters where the receiver holds nothing and is not in overflow.
+ */
+enum xara_cause {
+    XARA_CAUSE_NONE = 0,         /* nothing is dropped */
+    XARA_CAUSE_WRONG_LENGTH = 1, /* the frame has not field + 3 bytes */
+    XARA_CAUSE_NO_FRAGMENT = 2,  /* there is no fragment, or a first fragment has no second byte */
+    XARA_CAUSE_OVERFLOW = 3,     /* an earlier fragment took the message over the limit */
+    XARA_CAUSE_LIMIT = 4,        /* the fragment takes the message over 5,000 bytes or over 255 fragments */
+    XARA_CAUSE_CHECK = 5         /* the check bits are not those of the message */
 };
 
 /* In each answer look at `ok` or `kind` first: a field that has no meaning there is 0, which may be a value elsewhere. */
@@ -159,7 +179,29 @@ typedef struct XaraControl {
 } XaraControl;
 
 /*
- * 24 bytes. A receiver's state, which goes with one store. Each call takes it by value and hands back the next one: keep that,
+ * 64 bytes. Where fragments went. A push or a join that is not refused adds 1 to offered and 1 to one other tally: to more or done
+ * for that answer, to the tally of its cause where it is dropped. One that is refused adds nothing. So, of every receiver that
+ * started as new, whatever was pushed, joined and reset since,
+ *
+ *   offered = more + done + wrong_length + no_fragment + overflow + limit + check
+ *
+ * A new receiver starts them at 0, and nothing else does: a reset keeps them, and a struct that is handed in again brings its own.
+ * A caller may hand in any eight numbers. Where one of them is 2^64 - 1, offered or another, every push and join is refused with
+ * XARA_REFUSAL_TALLY, after a reset as before it.
+ */
+typedef struct XaraTallies {
+    uint64_t offered;      /* pushes and joins that were not refused */
+    uint64_t more;         /* answered with XARA_MORE */
+    uint64_t done;         /* answered with XARA_DONE */
+    uint64_t wrong_length; /* answered with XARA_DROPPED, this one and the next four by cause */
+    uint64_t no_fragment;
+    uint64_t overflow;
+    uint64_t limit;
+    uint64_t check;
+} XaraTallies;
+
+/*
+ * 88 bytes. A receiver's state, which goes with one store. Each call takes it by value and hands back the next one: keep that,
  * lend the same store again, and write to neither between calls. After XARA_DONE the message may be read from the store until
  * the next call.
  *
@@ -172,19 +214,21 @@ typedef struct XaraReceiver {
     uint8_t count;    /* the check byte of the message that is held, or of an earlier one; 0 in a new receiver, kept by a reset */
     uint8_t crc_mask; /* a mask of 1 to 7 check bits, as XARA_MASK_HF */
     uint8_t overflow; /* 0 or 1, and any byte but 0 is taken for 1: the rest of a message that is too long is dropped */
+    XaraTallies tallies;
 } XaraReceiver;
 
-/* 32 bytes. A new receiver, or a refusal's number. */
+/* 96 bytes. A new receiver, or a refusal's number. */
 typedef struct XaraFresh {
     bool ok;               /* 1 where it answers, 0 where it refuses */
     uint8_t refusal;       /* enum xara_refusal; 0 where ok */
     XaraReceiver receiver; /* 0 in every field where not ok */
 } XaraFresh;
 
-/* 40 bytes. What a push or a join answers, and the receiver from here on. */
+/* 104 bytes. What a push or a join answers, and the receiver from here on. */
 typedef struct XaraPushed {
     uint8_t kind;          /* enum xara_kind */
     uint8_t refusal;       /* enum xara_refusal where kind is XARA_REFUSED, else 0 */
+    uint8_t cause;         /* enum xara_cause: 1 to 5 where kind is XARA_DROPPED, else 0 */
     size_t length;         /* the message's length where kind is XARA_DONE, else 0 */
     XaraReceiver receiver; /* the very one that came in where kind is XARA_REFUSED; else with overflow 0 or 1 */
 } XaraPushed;
@@ -239,27 +283,27 @@ XaraAnswer xara_fragment(const uint8_t *message, size_t message_len, size_t fiel
 XaraAnswer xara_build_frame(size_t field, const uint8_t *data, size_t data_len, XaraControl control, uint8_t marker, uint8_t *out,
                             size_t out_len);
 
-/* A receiver that holds nothing: all fields are 0 but crc_mask. Refuses with MASK. */
+/* A receiver that holds nothing: all fields are 0 but crc_mask, the tallies too. Refuses with MASK. */
 XaraFresh xara_receiver_new(uint8_t crc_mask);
 
 /*
  * A frame that was heard, of field + 3 bytes; one of another length is dropped. The CRC at its end is not looked at: check it
  * before the call.
  * The store has exactly XARA_STORE bytes, whatever they are at first.
- * Refuses with STATE, MASK, FIELD, in this order.
+ * Refuses with STATE, MASK, FIELD, TALLY, in this order.
  */
 XaraPushed xara_receiver_push(XaraReceiver receiver, uint8_t *store, size_t store_len, const uint8_t *frame, size_t frame_len,
                               size_t field);
 
 /*
  * A fragment without its frame: the n first bytes of f. Where n is 0 or over f_len it is dropped.
- * Refuses with STATE, MASK, in this order.
+ * Refuses with STATE, MASK, TALLY, in this order.
  */
 XaraPushed xara_receiver_join(XaraReceiver receiver, uint8_t *store, size_t store_len, const uint8_t *f, size_t f_len, size_t n);
 
 /*
- * A receiver that holds nothing from here on: held, nfrag and overflow are 0, count and crc_mask are kept. The next fragment
- * starts a message. Refuses nothing and touches no store. Call it when the channel was silent.
+ * A receiver that holds nothing from here on: held, nfrag and overflow are 0; count, crc_mask and the tallies are kept. The next
+ * fragment starts a message. Refuses nothing and touches no store. Call it when the channel was silent.
  */
 XaraReceiver xara_receiver_reset(XaraReceiver receiver);
 
@@ -331,8 +375,29 @@ static inline const char *xara_refusal_text(uint8_t refusal)
         return "the reply is over 3 or the hint over 7";
     case XARA_REFUSAL_STATE:
         return "the store has not 5,000 bytes, or the state holds over 5,000 or counts over 255";
+    case XARA_REFUSAL_TALLY:
+        return "a tally is already the largest 64-bit number";
     default:
         return "no refusal of this library";
+    }
+}
+
+/* What a cause says, for a log. */
+static inline const char *xara_cause_text(uint8_t cause)
+{
+    switch (cause) {
+    case XARA_CAUSE_WRONG_LENGTH:
+        return "the frame has not field + 3 bytes";
+    case XARA_CAUSE_NO_FRAGMENT:
+        return "there is no fragment, or a first fragment has no second byte";
+    case XARA_CAUSE_OVERFLOW:
+        return "an earlier fragment took the message over the limit";
+    case XARA_CAUSE_LIMIT:
+        return "the fragment takes the message over 5,000 bytes or over 255 fragments";
+    case XARA_CAUSE_CHECK:
+        return "the check bits are not those of the message";
+    default:
+        return "no cause of this library";
     }
 }
 

@@ -1,6 +1,7 @@
 //! What comes of messages on the air when a frame is lost: 4,000 messages of random bytes under each mask, every frame but one
-//! pushed to a new receiver. Nothing of this is a fault of the receiver: the format has 1 to 7 check bits for a message.
-use xara::{Control, Encoder, Frame, Heard, Mask, Reassembler, Refusal};
+//! pushed to a receiver that is reset before each message and counts the answers. Nothing of this is a fault of the receiver: the
+//! format has 1 to 7 check bits for a message.
+use xara::{Control, Encoder, Frame, Mask, Reassembler, Refusal, Tallies};
 
 const MESSAGES: usize = 4_000;
 const SMALLEST_FIELD: usize = 12;
@@ -17,11 +18,10 @@ impl Numbers {
     }
 }
 
-/// How many of the messages were still handed out, by what was lost.
-#[derive(Default)]
+/// Where the frames of the messages went, by what was lost. As many messages were still handed out as are done.
 struct Counts {
-    middle: usize,
-    all_but_last: usize,
+    middle: Tallies,
+    all_but_last: Tallies,
 }
 
 /// The frames of a message of 30 to 79 random bytes, three at least. The field is the smallest from 12 on at which the mask
@@ -37,27 +37,26 @@ fn frames(numbers: &mut Numbers, mask: Mask) -> Result<Vec<Frame>, Refusal> {
     Ok(xara::fragments(message.bytes, field, mask)?.frames(Control::default(), 0x01)?.collect())
 }
 
-/// Whether the last of these frames, which have field + 3 bytes each, is answered with Done by a new receiver.
-fn done(frames: &[&Frame], mask: Mask) -> Result<bool, Refusal> {
-    let mut receiver = Reassembler::new(mask);
-    let mut done = false;
+/// Pushes frames of a message, which have field + 3 bytes each, to a receiver that then holds nothing of another.
+fn hear(frames: &[&Frame], receiver: &mut Reassembler) -> Result<(), Refusal> {
+    receiver.reset();
     for frame in frames {
-        done = matches!(receiver.push(frame, frame.len() - 3)?, Heard::Done(_));
+        receiver.push(frame, frame.len() - 3)?;
     }
-    Ok(done)
+    Ok(())
 }
 
 fn lost(mask: Mask) -> Result<Counts, Refusal> {
     let mut numbers = Numbers(0x9E37_79B9_7F4A_7C15);
-    let mut counts = Counts::default();
+    let (mut middle, mut all_but_last) = (Reassembler::new(mask), Reassembler::new(mask));
     for _ in 0..MESSAGES {
         let all = frames(&mut numbers, mask)?;
         let gone = 1 + numbers.next(all.len() - 2);
         let rest: Vec<&Frame> = all.iter().enumerate().filter(|(i, _)| *i != gone).map(|(_, f)| f).collect();
-        counts.middle += usize::from(done(&rest, mask)?);
-        counts.all_but_last += usize::from(done(&rest[rest.len() - 1..], mask)?);
+        hear(&rest, &mut middle)?;
+        hear(&rest[rest.len() - 1..], &mut all_but_last)?;
     }
-    Ok(counts)
+    Ok(Counts { middle: middle.tallies(), all_but_last: all_but_last.tallies() })
 }
 
 fn main() -> Result<(), Refusal> {
@@ -65,11 +64,12 @@ fn main() -> Result<(), Refusal> {
         let (name, counts) = (mask.byte(), lost(mask)?);
         println!(
             "{name:02X}: of {MESSAGES} messages with one middle frame lost {} are Done, with other bytes",
-            counts.middle
+            counts.middle.done
         );
+        println!("{name:02X}: their frames: {}", counts.middle);
         println!(
             "{name:02X}: of {MESSAGES} messages of which only the last frame is heard {} are Done",
-            counts.all_but_last
+            counts.all_but_last.done
         );
     }
     Ok(())

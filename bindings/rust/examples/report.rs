@@ -1,5 +1,5 @@
-//! Sends a position report through all calls, hears it whole, then with a frame lost and sent again: the same as
-//! bindings/c/report.c, with the same output.
+//! Sends a position report through all calls, hears it whole, then with a frame lost and sent again, and shows where the frames
+//! went: the same as bindings/c/report.c, with the same output.
 
 use xara::{Buffer, Command, Control, Decoder, Encoder, Heard, Mask, Reassembler, Refusal};
 
@@ -34,7 +34,10 @@ fn transmit(message: &[u8], lost: Option<usize>, receiver: &mut Reassembler) -> 
             continue;
         }
         match receiver.push(&frame, FIELD)? {
-            Heard::Dropped => println!("{:<9}dropped", ""),
+            Heard::Dropped => {
+                let cause = receiver.cause().expect("a frame that is dropped has a cause");
+                println!("{:<9}dropped\n{:<9}{cause}", "", "");
+            }
             Heard::More => println!("{:<9}more", ""),
             Heard::Done(message) => {
                 println!("{:<9}done", "");
@@ -61,6 +64,7 @@ fn main() -> Result<(), Refusal> {
     println!("\nthe same with frame 1 lost, then sent again");
     assert_eq!(transmit(&message, Some(1), &mut receiver)?, None);
     assert_eq!(transmit(&message, None, &mut receiver)?, Some(report));
+    println!("\n{}", receiver.tallies());
 
     let refusal = xara::fragments(&message, 2, Mask::Hf).expect_err("field 2 is refused");
     println!("\nfield 2: refused {}: {refusal}", refusal.number());

@@ -39,7 +39,8 @@
 //!   first byte is below 0x80;
 //! - the frames of the message arrive in order, undamaged and complete, each once;
 //! - only idle calls stand between them: calls that are refused, frames of another length than field + 3, and frames or
-//!   fragments of no bytes.
+//!   fragments of no bytes;
+//! - all pushes and joins since the receiver was new, those of the message included, are fewer than 2^64: no tally is full then.
 //!
 //! What the air can still do, since the format leaves no room to find it out:
 //! - A frame that is lost may go unnoticed. The first of several fragments carries check bits of the whole message, as many as
@@ -74,6 +75,24 @@
 //! # Ok::<(), xara::Refusal>(())
 //! ```
 //!
+//! # Where fragments went
+//!
+//! A receiver counts what it is offered and what comes of it: [`Reassembler::tallies`] hands out the eight [`Tallies`], of which the
+//! first is the sum of the others, and [`Reassembler::cause`] says why a frame or a fragment was dropped.
+//!
+//! ```
+//! use xara::{Cause, Heard, Mask, Reassembler};
+//!
+//! let mut receiver = Reassembler::new(Mask::Hf);
+//! receiver.push(&[0xC0, 0x40, 0xAC, 0xB7, 0x01, 0x01, 0xA3, 0x8C], 5)?;
+//! let damaged = [0x40, 0x00, 0x10, 0x41, 0x14, 0x00, 0x52, 0x42];
+//! assert_eq!(receiver.push(&damaged, 5)?, Heard::Dropped);
+//! assert_eq!(receiver.cause(), Some(Cause::Check));
+//! let tallies = receiver.tallies();
+//! assert_eq!((tallies.offered, tallies.more, tallies.done, tallies.check), (2, 1, 0, 1));
+//! # Ok::<(), xara::Refusal>(())
+//! ```
+//!
 //! # Two readings
 //!
 //! A message may be read in two ways, and the receiving side alone chooses: the coder and all that goes on the air are the same
@@ -95,6 +114,7 @@ mod raw;
 mod receiver;
 mod refusal;
 mod sender;
+mod tallies;
 #[cfg(test)]
 mod tests;
 mod words;
@@ -104,6 +124,7 @@ pub use frame::{Control, Frame, Frames, TERMINATOR, build_frame};
 pub use receiver::{Heard, RX_BUFFER, RX_MAX_FRAGMENTS, Reassembler, State};
 pub use refusal::Refusal;
 pub use sender::{Fragment, Fragments, MAX_FIELD, MIN_FIELD, count_for_field, fragment, fragments};
+pub use tallies::{Cause, Tallies};
 pub use words::{AprsType, Command, Mask};
 
 /// The most bytes of data to code.

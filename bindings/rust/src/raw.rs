@@ -21,12 +21,26 @@ pub struct XaraControl {
 
 #[repr(C)]
 #[derive(Clone, Copy, Debug, PartialEq, Eq)]
+pub struct XaraTallies {
+    pub offered: u64,
+    pub more: u64,
+    pub done: u64,
+    pub wrong_length: u64,
+    pub no_fragment: u64,
+    pub overflow: u64,
+    pub limit: u64,
+    pub check: u64,
+}
+
+#[repr(C)]
+#[derive(Clone, Copy, Debug, PartialEq, Eq)]
 pub struct XaraReceiver {
     pub held: usize,
     pub nfrag: usize,
     pub count: u8,
     pub crc_mask: u8,
     pub overflow: u8,
+    pub tallies: XaraTallies,
 }
 
 #[repr(C)]
@@ -42,6 +56,7 @@ pub struct XaraFresh {
 pub struct XaraPushed {
     pub kind: u8,
     pub refusal: u8,
+    pub cause: u8,
     pub length: usize,
     pub receiver: XaraReceiver,
 }

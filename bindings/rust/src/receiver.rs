@@ -1,7 +1,7 @@
 //! Frames and fragments joined to messages.
 
 use crate::raw::{self, XaraPushed, XaraReceiver};
-use crate::{Mask, Refusal};
+use crate::{Cause, Mask, Refusal, Tallies};
 use std::fmt;
 
 /// The bytes of a receiver's store, and the most of a message that is heard.
@@ -12,7 +12,7 @@ pub const RX_MAX_FRAGMENTS: usize = 255;
 /// What a receiver answers to a frame or a fragment. `T` is the message, or its length where the store is lent.
 #[derive(Clone, Copy, Debug, PartialEq, Eq)]
 pub enum Heard<T> {
-    /// The frame or fragment is lost.
+    /// The frame or fragment is lost. [`Reassembler::cause`] or [`State::cause`] says why.
     Dropped,
     /// The message goes on.
     More,
@@ -33,8 +33,8 @@ impl<T> Heard<T> {
 /// A receiver's state, for those who keep the store themselves. It goes with one store: lend the same one to each call, and write
 /// to neither between calls. [`Reassembler`] does so.
 ///
-/// The fields may be set to anything. What can be no state is refused with [`Refusal::State`] or [`Refusal::Mask`], and is
-/// then as it was in every field.
+/// The fields may be set to anything. What can be no state is refused with [`Refusal::State`] or [`Refusal::Mask`], and what can
+/// count no more with [`Refusal::Tally`]; it is then as it was in every field.
 ///
 /// ```
 /// use xara::{Heard, Mask, RX_BUFFER, State};
@@ -57,43 +57,50 @@ pub struct State {
     pub crc_mask: u8,
     /// Whether the rest of a message that is too long is dropped.
     pub overflow: bool,
+    /// How many frames and fragments had each answer.
+    pub tallies: Tallies,
+    /// Why the last answer was [`Heard::Dropped`]; `None` where it was another, in a new state and after a reset. A refusal leaves
+    /// it as it was. No call looks at it.
+    pub cause: Option<Cause>,
 }
 
 impl State {
-    /// A receiver that holds nothing.
+    /// A receiver that holds nothing and has counted nothing.
     pub const fn new(mask: Mask) -> Self {
-        State { held: 0, nfrag: 0, count: 0, crc_mask: mask.byte(), overflow: false }
+        let tallies = Tallies::NEW;
+        State { held: 0, nfrag: 0, count: 0, crc_mask: mask.byte(), overflow: false, tallies, cause: None }
     }
 
     /// A frame that was heard, of field + 3 bytes; one of another length is dropped. The CRC at its end is not looked at: check it
     /// before the call.
     ///
     /// Where the answer is done, the message is the first so many bytes of the store. Refuses with [`Refusal::State`],
-    /// [`Refusal::Mask`], [`Refusal::Field`], in this order.
+    /// [`Refusal::Mask`], [`Refusal::Field`], [`Refusal::Tally`], in this order.
     pub fn push(&mut self, store: &mut [u8], frame: &[u8], field: usize) -> Result<Heard<usize>, Refusal> {
         self.follow(raw::xara_receiver_push(self.lent(), store, frame, field))
     }
 
     /// A fragment without its frame: the n first bytes of f. Where n is 0 or more than f has it is dropped.
     ///
-    /// Refuses with [`Refusal::State`], [`Refusal::Mask`], in this order.
+    /// Refuses with [`Refusal::State`], [`Refusal::Mask`], [`Refusal::Tally`], in this order.
     pub fn join(&mut self, store: &mut [u8], f: &[u8], n: usize) -> Result<Heard<usize>, Refusal> {
         self.follow(raw::xara_receiver_join(self.lent(), store, f, n))
     }
 
-    /// Nothing held, no fragments, no overflow. Check byte and mask are kept.
+    /// Nothing held, no fragments, no overflow. Check byte, mask and tallies are kept, full tallies too.
     pub fn reset(&mut self) {
         *self = raw::xara_receiver_reset(self.lent()).into();
     }
 
     fn lent(self) -> XaraReceiver {
-        let State { held, nfrag, count, crc_mask, overflow } = self;
-        XaraReceiver { held, nfrag, count, crc_mask, overflow: u8::from(overflow) }
+        let State { held, nfrag, count, crc_mask, overflow, tallies, cause: _ } = self;
+        XaraReceiver { held, nfrag, count, crc_mask, overflow: u8::from(overflow), tallies: tallies.into() }
     }
 
     /// Takes the state from an answer.
     fn follow(&mut self, pushed: XaraPushed) -> Result<Heard<usize>, Refusal> {
-        *self = pushed.receiver.into();
+        let cause = if pushed.kind == 0 { self.cause } else { Cause::from_number(pushed.cause) };
+        *self = State { cause, ..pushed.receiver.into() };
         match pushed.kind {
             0 => Err(Refusal::from_number(pushed.refusal)),
             1 => Ok(Heard::Dropped),
@@ -106,8 +113,8 @@ impl State {
 
 impl From<XaraReceiver> for State {
     fn from(receiver: XaraReceiver) -> Self {
-        let XaraReceiver { held, nfrag, count, crc_mask, overflow } = receiver;
-        State { held, nfrag, count, crc_mask, overflow: overflow != 0 }
+        let XaraReceiver { held, nfrag, count, crc_mask, overflow, tallies } = receiver;
+        State { held, nfrag, count, crc_mask, overflow: overflow != 0, tallies: tallies.into(), cause: None }
     }
 }
 
@@ -130,7 +137,7 @@ pub struct Reassembler {
 }
 
 impl Reassembler {
-    /// A receiver that holds nothing.
+    /// A receiver that holds nothing and has counted nothing.
     pub fn new(mask: Mask) -> Self {
         Reassembler { state: State::new(mask), store: vec![0; RX_BUFFER].into() }
     }
@@ -152,7 +159,7 @@ impl Reassembler {
     /// A frame that was heard, of field + 3 bytes; one of another length is dropped. The CRC at its end is not looked at: check it
     /// before the call. A message that is done may be read until the next call.
     ///
-    /// Refuses with [`Refusal::Field`].
+    /// Refuses with [`Refusal::Field`], [`Refusal::Tally`], in this order.
     pub fn push(&mut self, frame: &[u8], field: usize) -> Result<Heard<&[u8]>, Refusal> {
         let heard = self.state.push(&mut self.store, frame, field)?;
         Ok(self.handed_out(heard))
@@ -160,13 +167,15 @@ impl Reassembler {
 
     /// A fragment without its frame: the n first bytes of f. Where n is 0 or more than f has it is dropped.
     ///
-    /// Nothing is refused: the store has its size, and the state is one that calls lead to.
+    /// Refuses with [`Refusal::Tally`], which takes 2^64 - 1 calls before. Nothing else is refused: the store has its size, and the
+    /// state is one that calls lead to.
     pub fn join(&mut self, f: &[u8], n: usize) -> Result<Heard<&[u8]>, Refusal> {
         let heard = self.state.join(&mut self.store, f, n)?;
         Ok(self.handed_out(heard))
     }
 
-    /// Nothing held, no fragments, no overflow: the next fragment starts a message. Call it when the channel was silent.
+    /// Nothing held, no fragments, no overflow: the next fragment starts a message. The tallies are kept. Call it when the channel
+    /// was silent.
     pub fn reset(&mut self) {
         self.state.reset();
     }
@@ -179,6 +188,16 @@ impl Reassembler {
     /// What is held of a message that goes on.
     pub fn held(&self) -> &[u8] {
         &self.store[..self.state.held]
+    }
+
+    /// How many frames and fragments had each answer since the receiver was new.
+    pub fn tallies(&self) -> Tallies {
+        self.state.tallies
+    }
+
+    /// Why the last answer was [`Heard::Dropped`]: what [`State::cause`] is.
+    pub fn cause(&self) -> Option<Cause> {
+        self.state.cause
     }
 
     /// The state.

@@ -52,43 +52,46 @@ pub enum Refusal {
     Control,
     /// 17: the store has not 5,000 bytes, or the state holds over 5,000 or counts over 255.
     State,
+    /// 27: a tally is already the largest 64-bit number.
+    Tally,
     /// A number of an archive that is newer than this crate.
     Other(u8),
 }
 
-/// The refusals by number, from 1 on.
-const NUMBERED: [Refusal; 17] = [
-    Refusal::Command,
-    Refusal::TooLong,
-    Refusal::Short,
-    Refusal::BadCall,
-    Refusal::Format,
-    Refusal::Output,
-    Refusal::NotDecoded,
-    Refusal::Field,
-    Refusal::Mask,
-    Refusal::Empty,
-    Refusal::FirstByte,
-    Refusal::Count,
-    Refusal::Number,
-    Refusal::Fragment,
-    Refusal::Marker,
-    Refusal::Control,
-    Refusal::State,
+/// The refusals with their numbers, which leave gaps.
+const NUMBERED: [(u8, Refusal); 18] = [
+    (1, Refusal::Command),
+    (2, Refusal::TooLong),
+    (3, Refusal::Short),
+    (4, Refusal::BadCall),
+    (5, Refusal::Format),
+    (6, Refusal::Output),
+    (7, Refusal::NotDecoded),
+    (8, Refusal::Field),
+    (9, Refusal::Mask),
+    (10, Refusal::Empty),
+    (11, Refusal::FirstByte),
+    (12, Refusal::Count),
+    (13, Refusal::Number),
+    (14, Refusal::Fragment),
+    (15, Refusal::Marker),
+    (16, Refusal::Control),
+    (17, Refusal::State),
+    (27, Refusal::Tally),
 ];
 
 impl Refusal {
     /// The refusal with a number.
     pub fn from_number(number: u8) -> Self {
-        let place = usize::from(number).checked_sub(1);
-        place.and_then(|place| NUMBERED.get(place).copied()).unwrap_or(Refusal::Other(number))
+        let named = NUMBERED.iter().find(|(its, _)| *its == number);
+        named.map_or(Refusal::Other(number), |&(_, refusal)| refusal)
     }
 
     /// The number.
     pub fn number(self) -> u8 {
         match self {
             Refusal::Other(number) => number,
-            named => 1 + NUMBERED.iter().position(|&r| r == named).expect("each named refusal is in the list") as u8,
+            named => NUMBERED.iter().find(|(_, its)| *its == named).expect("each named refusal is in the list").0,
         }
     }
 }
@@ -113,6 +116,7 @@ impl fmt::Display for Refusal {
             Refusal::Marker => "the marker is 14",
             Refusal::Control => "the reply is over 3 or the hint over 7",
             Refusal::State => "the store has not 5,000 bytes, or the state holds over 5,000 or counts over 255",
+            Refusal::Tally => "a tally is already the largest 64-bit number",
             Refusal::Other(number) => return write!(f, "refused with {number}"),
         };
         f.write_str(text)

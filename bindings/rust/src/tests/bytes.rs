@@ -1,7 +1,38 @@
 //! Commands, masks and flags that are any byte.
 
-use crate::raw::{self, XaraControl, XaraReceiver};
-use crate::{Command, Mask, RX_BUFFER, Refusal};
+use crate::raw::{self, XaraControl, XaraPushed, XaraReceiver, XaraTallies};
+use crate::{Cause, Command, Mask, RX_BUFFER, Refusal};
+
+/// A receiver that holds nothing and has counted nothing.
+const ZEROS: XaraReceiver = XaraReceiver {
+    held: 0,
+    nfrag: 0,
+    count: 0,
+    crc_mask: 0,
+    overflow: 0,
+    tallies: XaraTallies {
+        offered: 0,
+        more: 0,
+        done: 0,
+        wrong_length: 0,
+        no_fragment: 0,
+        overflow: 0,
+        limit: 0,
+        check: 0,
+    },
+};
+
+/// Every field of an answer.
+fn shown(a: XaraPushed) -> (u8, u8, u8, usize, XaraReceiver) {
+    (a.kind, a.refusal, a.cause, a.length, a.receiver)
+}
+
+/// A receiver with one more that was dropped in overflow.
+fn dropped_in_overflow(receiver: XaraReceiver, overflow: u8) -> XaraReceiver {
+    let XaraTallies { offered, overflow: dropped, .. } = receiver.tallies;
+    let tallies = XaraTallies { offered: offered + 1, overflow: dropped + 1, ..receiver.tallies };
+    XaraReceiver { overflow, tallies, ..receiver }
+}
 
 #[test]
 fn every_other_command_is_refused() {
@@ -24,13 +55,10 @@ fn every_other_mask_is_refused() {
             assert_eq!((a.ok, a.refusal, a.value), (0, refusal, 0));
         }
         let a = raw::xara_receiver_new(crc_mask);
-        let none = XaraReceiver { held: 0, nfrag: 0, count: 0, crc_mask: 0, overflow: 0 };
-        assert_eq!((a.ok, a.refusal, a.receiver), (0, 9, none));
-        let state = XaraReceiver { held: 3, nfrag: 1, count: 2, crc_mask, overflow: 7 };
-        let a = raw::xara_receiver_join(state, &mut store, b"A", 1);
-        assert_eq!((a.kind, a.refusal, a.length, a.receiver), (0, 9, 0, state));
-        let a = raw::xara_receiver_push(state, &mut store, b"A", 1);
-        assert_eq!((a.kind, a.refusal, a.length, a.receiver), (0, 9, 0, state));
+        assert_eq!((a.ok, a.refusal, a.receiver), (0, 9, ZEROS));
+        let state = XaraReceiver { held: 3, nfrag: 1, count: 2, crc_mask, overflow: 7, ..ZEROS };
+        assert_eq!(shown(raw::xara_receiver_join(state, &mut store, b"A", 1)), (0, 9, 0, 0, state));
+        assert_eq!(shown(raw::xara_receiver_push(state, &mut store, b"A", 1)), (0, 9, 0, 0, state));
     }
     assert_eq!((out, store), ([0xA5; 10], [0xA5; RX_BUFFER]));
 }
@@ -39,8 +67,7 @@ fn every_other_mask_is_refused() {
 fn masks_are_taken() {
     for mask in Mask::ALL {
         let a = raw::xara_receiver_new(mask.byte());
-        let fresh = XaraReceiver { held: 0, nfrag: 0, count: 0, crc_mask: mask.byte(), overflow: 0 };
-        assert_eq!((a.ok, a.refusal, a.receiver), (1, 0, fresh));
+        assert_eq!((a.ok, a.refusal, a.receiver), (1, 0, XaraReceiver { crc_mask: mask.byte(), ..ZEROS }));
     }
 }
 
@@ -61,11 +88,11 @@ fn every_byte_is_an_overflow() {
     let mut store = [0xA5; RX_BUFFER];
     for overflow in 1..=255 {
         for (held, nfrag) in [(0, 0), (0, 255), (1, 0), (4999, 255), (5000, 1)] {
-            let state = XaraReceiver { held, nfrag, count: 9, crc_mask: 0xF8, overflow };
+            let state = XaraReceiver { held, nfrag, count: 9, crc_mask: 0xF8, overflow, ..ZEROS };
             let a = raw::xara_receiver_join(state, &mut store, &[0x80, 1, 2], 3);
-            assert_eq!((a.kind, a.refusal, a.length, a.receiver), (1, 0, 0, XaraReceiver { overflow: 1, ..state }));
+            assert_eq!(shown(a), (1, 0, 3, 0, dropped_in_overflow(state, 1)));
             let a = raw::xara_receiver_join(state, &mut store, &[0x7F, 1, 2], 3);
-            assert_eq!((a.kind, a.refusal, a.length, a.receiver), (1, 0, 0, XaraReceiver { overflow: 0, ..state }));
+            assert_eq!(shown(a), (1, 0, 3, 0, dropped_in_overflow(state, 0)));
             let reset = raw::xara_receiver_reset(state);
             assert_eq!(reset, XaraReceiver { held: 0, nfrag: 0, overflow: 0, ..state });
         }
@@ -73,52 +100,74 @@ fn every_byte_is_an_overflow() {
     assert_eq!(store, [0xA5; RX_BUFFER]);
 }
 
-/// Refused with 17, 9 or 8, a state comes back as it was, whichever byte says overflow.
+/// Refused with 17, 9, 8 or 27, a state comes back as it was, whichever byte says overflow.
 #[test]
 fn every_overflow_comes_back_from_a_refusal() {
     let mut store = [0xA5; RX_BUFFER];
     for overflow in 0..=255 {
-        let state = XaraReceiver { held: 3, nfrag: 2, count: 9, crc_mask: 0xF0, overflow };
-        let a = raw::xara_receiver_push(state, &mut store, b"AAAAAAAA", 2);
-        assert_eq!((a.kind, a.refusal, a.length, a.receiver), (0, 8, 0, state));
+        let tallies = XaraTallies { limit: u64::MAX, ..ZEROS.tallies };
+        let state = XaraReceiver { held: 3, nfrag: 2, count: 9, crc_mask: 0xF0, overflow, tallies };
+        assert_eq!(shown(raw::xara_receiver_push(state, &mut store, b"AAAAAAAA", 5)), (0, 27, 0, 0, state));
+        assert_eq!(shown(raw::xara_receiver_join(state, &mut store, b"AAAAAAAA", 5)), (0, 27, 0, 0, state));
+        assert_eq!(shown(raw::xara_receiver_push(state, &mut store, b"AAAAAAAA", 2)), (0, 8, 0, 0, state));
         let state = XaraReceiver { crc_mask: 1, ..state };
-        let a = raw::xara_receiver_push(state, &mut store, b"AAAAAAAA", 5);
-        assert_eq!((a.kind, a.refusal, a.length, a.receiver), (0, 9, 0, state));
+        assert_eq!(shown(raw::xara_receiver_push(state, &mut store, b"AAAAAAAA", 5)), (0, 9, 0, 0, state));
         let state = XaraReceiver { held: 5001, ..state };
-        let a = raw::xara_receiver_join(state, &mut store, b"AAAAAAAA", 5);
-        assert_eq!((a.kind, a.refusal, a.length, a.receiver), (0, 17, 0, state));
+        assert_eq!(shown(raw::xara_receiver_join(state, &mut store, b"AAAAAAAA", 5)), (0, 17, 0, 0, state));
     }
     assert_eq!(store, [0xA5; RX_BUFFER]);
 }
 
-/// Every number has a name of its own, up to 17, and comes back.
+/// A number that has a name of its own comes back, and so does every other.
 #[test]
 fn numbers_and_names() {
     for number in 0..=255 {
         let refusal = Refusal::from_number(number);
         assert_eq!(refusal.number(), number);
-        assert_eq!(matches!(refusal, Refusal::Other(_)), !(1..=17).contains(&number));
+        assert_eq!(matches!(refusal, Refusal::Other(_)), !matches!(number, 1..=17 | 27));
         assert!(!refusal.to_string().is_empty());
+        let cause = Cause::from_number(number);
+        assert_eq!(cause.map(Cause::number), (1..=5).contains(&number).then_some(number));
     }
 }
 
-/// Numbers and texts are those of xara.h.
+const HEADER: &str = include_str!("../../../include/xara.h");
+
+/// The names of xara.h that start so, with their numbers, but for a number of 0.
+fn numbered_in_header(start: &str) -> Vec<(String, u8)> {
+    let pairs = HEADER.lines().filter_map(|line| line.trim_start().split_once(" = "));
+    let named = pairs.filter(|(name, _)| name.starts_with(start));
+    let numbered = named.map(|(name, rest)| (name, rest.split([',', ' ']).next().unwrap_or_default().parse()));
+    numbered.map(|(name, n)| (name.to_string(), n.expect(name))).filter(|(_, n)| *n != 0).collect()
+}
+
+/// A name of this crate as xara.h has it: XARA_CAUSE_WRONG_LENGTH for WrongLength.
+fn in_header(start: &str, name: &str) -> String {
+    name.chars().fold(start.to_string(), |mut all, c| {
+        if c.is_ascii_uppercase() {
+            all.push('_');
+        }
+        all.push(c.to_ascii_uppercase());
+        all
+    })
+}
+
+/// These names with their numbers and texts are what xara.h has with this start, and it has no others.
+fn same_in_header(start: &str, ours: impl Iterator<Item = (String, u8, String)>) {
+    let numbered: Vec<(String, u8)> = ours
+        .map(|(name, number, text)| {
+            let name = in_header(start, &name);
+            assert!(HEADER.contains(&format!("case {name}:\n        return \"{text}\";")), "{name}");
+            (name, number)
+        })
+        .collect();
+    assert_eq!(numbered_in_header(start), numbered);
+}
+
 #[test]
 fn names_are_those_of_the_header() {
-    let header = include_str!("../../../include/xara.h");
-    for number in 1..=17 {
-        let refusal = Refusal::from_number(number);
-        let name = format!("{refusal:?}").chars().fold(String::from("XARA_REFUSAL"), |mut name, c| {
-            if c.is_ascii_uppercase() {
-                name.push('_');
-            }
-            name.push(c.to_ascii_uppercase());
-            name
-        });
-        let line = header.lines().find(|line| line.trim_start().starts_with(&format!("{name} = ")));
-        let line = line.unwrap_or_else(|| panic!("{name} is in the header"));
-        let value = line.split_once(" = ").and_then(|(_, rest)| rest.split([',', ' ']).next());
-        assert_eq!(value, Some(number.to_string().as_str()), "{name}");
-        assert!(header.contains(&format!("case {name}:\n        return \"{refusal}\";")), "{name}");
-    }
+    let refusals = (0..=255).map(Refusal::from_number).filter(|r| !matches!(r, Refusal::Other(_)));
+    same_in_header("XARA_REFUSAL", refusals.map(|r| (format!("{r:?}"), r.number(), r.to_string())));
+    let causes = (0..=255).filter_map(Cause::from_number);
+    same_in_header("XARA_CAUSE", causes.map(|c| (format!("{c:?}"), c.number(), c.to_string())));
 }

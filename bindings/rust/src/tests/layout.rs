@@ -1,6 +1,8 @@
 //! The structs against those of xara.h, by a C program that prints its own.
 
-use crate::raw::{XaraAnswer, XaraControl, XaraDecoded, XaraEncoded, XaraFresh, XaraPushed, XaraReceiver, XaraSummary};
+use crate::raw::{
+    XaraAnswer, XaraControl, XaraDecoded, XaraEncoded, XaraFresh, XaraPushed, XaraReceiver, XaraSummary, XaraTallies,
+};
 use std::mem::{align_of, offset_of, size_of};
 use std::path::Path;
 use std::process::Command;
@@ -31,10 +33,11 @@ macro_rules! lines {
 fn ours() -> String {
     [
         lines!(XaraControl: reply, compressed, hint),
-        lines!(XaraReceiver: held, nfrag, count, crc_mask, overflow),
+        lines!(XaraTallies: offered, more, done, wrong_length, no_fragment, overflow, limit, check),
+        lines!(XaraReceiver: held, nfrag, count, crc_mask, overflow, tallies),
         lines!(XaraAnswer: ok, refusal, value),
         lines!(XaraFresh: ok, refusal, receiver),
-        lines!(XaraPushed: kind, refusal, length, receiver),
+        lines!(XaraPushed: kind, refusal, cause, length, receiver),
         lines!(XaraEncoded: ok, refusal, aprs_type, length),
         lines!(XaraSummary: ok, refusal, aprs_type, ui, digis),
         lines!(XaraDecoded: ok, refusal, command, length),
