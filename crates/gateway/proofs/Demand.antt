@@ -147,7 +147,8 @@ module _ {mended : Bool} (m : ℕ) where
 
 -- ---- the claim
 
-run-append : (t : State) (a b : List Call) → runOf t (a ++ b) ≡ runOf t a ++ runOf (leftBy t a) b
+-- a list of calls after another
+pub run-append : (t : State) (a b : List Call) → runOf t (a ++ b) ≡ runOf t a ++ runOf (leftBy t a) b
 unfolding runOf leftBy
 run-append t [] b = refl
 run-append t (c ∷ a) b = ap {B = List (Option Heard)} (λ l. stepOf t c .answer ∷ l) (run-append (stepOf t c .next) a b)

@@ -85,7 +85,7 @@ module _ (m : ℕ) where
 
 -- ---- how many pushes and joins there are
 
-offers-append : (a b : List Call) → offers (a ++ b) ≡ offers a + offers b
+pub offers-append : (a b : List Call) → offers (a ++ b) ≡ offers a + offers b
 unfolding offers
 offers-append [] b = omega arith
 offers-append (push f k ∷ a) b = omega (arith, offers-append a b)
@@ -107,6 +107,12 @@ offers-since (c ∷ cs) =
     (λ o. by-test (ending c) (λ e. rw (o, e) (offers-cons c cs)) (λ e. rw (o, e) (omega arith)))
 
 -- ---- every list of calls
+
+-- one call after a list of calls
+pub left-snoc : (t : State) (past : List Call) (c : Call) → leftBy t (past ++ (c ∷ [])) ≡ stepOf (leftBy t past) c .next
+unfolding leftBy
+left-snoc t [] c = refl
+left-snoc t (d ∷ past) c = left-snoc (stepOf t d .next) past c
 
 module _ (m : ℕ) (ok : maskOk m ≡ true) where
   -- for a call after any list of calls: each receiver is new with the mask m, and each store has 5,000 bytes, whatever they hold
@@ -130,13 +136,9 @@ module _ (m : ℕ) (ok : maskOk m ≡ true) where
       = omega (arith, h, offers-append past (c ∷ []), offers-append (since past) (c ∷ []), offers-since past) in
       step-after m s past c h ∙ forget-bare s s′ l l′ past c ∙ sym (step-after m s′ (since past) c few)
 
-  left-snoc : (t : State) (past : List Call) (c : Call) → leftBy t (past ++ (c ∷ [])) ≡ stepOf (leftBy t past) c .next
-  unfolding leftBy
-  left-snoc t [] c = refl
-  left-snoc t (d ∷ past) c = left-snoc (stepOf t d .next) past c
-
   module _ (s : List ℕ) (l : length s ≡ 5000) (stores : List Call → List ℕ) (ls : (p : List Call) → length (stores p) ≡ 5000) where
-    freshly-from : (past cs : List Call) → offers past + offers cs < 2 ^ 64
+    -- for calls after any list of calls
+    pub freshly-from : (past cs : List Call) → offers past + offers cs < 2 ^ 64
         → runOf (leftBy (state (freshOf m) s) past) cs ≡ freshly (freshOf m) stores past cs
     unfolding runOf freshly
     freshly-from past [] h = refl

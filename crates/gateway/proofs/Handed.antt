@@ -67,7 +67,7 @@ handed-mixed finished = refl
 handed-mixed (still {ls = ls} c i q) = handed-idle c (answers ls) ∙ handed-mixed q
 handed-mixed (next {ps = ps} {ls = ls} l q) = handed-first (l .answer) (answers ls) (answers ps) (handed-mixed q)
 
-answers-append : (a b : List Line) → answers (a ++ b) ≡ answers a ++ answers b
+pub answers-append : (a b : List Line) → answers (a ++ b) ≡ answers a ++ answers b
 answers-append [] b = refl
 answers-append (x ∷ a) b = ap {B = List (Option Heard)} (λ l. x .answer ∷ l) (answers-append a b)
 

@@ -1,4 +1,6 @@
 // Lines that are a history of calls on one receiver.
+pub mod channel;
+
 ghost use mathlib.Core.Path.{_≡_};
 ghost use lib.ListN.{length};
 use lines::answer::Outcome;
@@ -22,18 +24,34 @@ struct Step {
     receiver: Reassembler,
 }
 
-// history MASK CALL CALL ..: a new receiver, and one call or more in order; where the mask is refused, the refusal stands for them
-pub fn history(line: &[u8]) -> Outcome {
+// What a line starts with: a new receiver, or the refusal of its mask.
+enum Opening {
+    Bad,
+    Refused(u8),
+    Ready(Reassembler),
+}
+
+// Makes the receiver of a line KIND MASK CALL CALL .., which has one call or more.
+fn start(line: &[u8]) -> Opening {
     if fields(line) < 3 {
-        return Outcome::Bad;
+        return Opening::Bad;
     }
     let mut mask = [0u8; 1];
     if !all_hex(field(line, 1), &mut mask) {
-        return Outcome::Bad;
+        return Opening::Bad;
     }
     match Reassembler::with_crc_mask(mask[0]) {
-        Fresh::Refused(n) => refused(line, n),
-        Fresh::Ready(receiver) => calls(line, receiver),
+        Fresh::Refused(n) => Opening::Refused(n),
+        Fresh::Ready(receiver) => Opening::Ready(receiver),
+    }
+}
+
+// history MASK CALL CALL ..: a new receiver, and one call or more in order; where the mask is refused, the refusal stands for them
+pub fn history(line: &[u8]) -> Outcome {
+    match start(line) {
+        Opening::Bad => Outcome::Bad,
+        Opening::Refused(n) => refused(line, n),
+        Opening::Ready(receiver) => calls(line, receiver),
     }
 }
 

@@ -4,10 +4,12 @@ ghost use mathlib.Core.Bool.{true, false};
 ghost use mathlib.Core.List.{List, []};
 ghost use Prim.Native.Nat.{ℕ, _≤_, _<_, max};
 ghost use lib.ListN.{length};
+ghost use Rattle.laws.specs.Bits.{num};
 ghost use Rattle.refusals.specs.Limits.{fieldOk};
 ghost use Rattle.receiver.specs.Join.{dropped, heardOf, joinedAfter, resetOf, baseOf, headed, finishOf, growOf, acceptOf, refusalOf, joinOf};
 ghost use Rattle.receiver.specs.New.{madeOf, newOf};
 ghost use Rattle.receiver.specs.Push.{fragmentLength, pushOf};
+ghost use Rattle.receiver.specs.Stored.{receiverOf, storedOf};
 ghost use Rattle.receiver.specs.Tally.{isFull, tallied, after, counted, joinTallied, pushTallied, resetTallied};
 use frame::TERMINATOR;
 
@@ -44,6 +46,7 @@ pub enum Push {
 }
 
 // How many frames and fragments were offered and not refused, and how many of them had each answer.
+#[repr(C)]
 pub struct Tallies {
     pub offered: u64,
     pub more: u64,
@@ -59,6 +62,17 @@ pub struct Tallies {
 // The receiver: what is known of the message that is being heard, and the tallies.
 pub struct Reassembler {
     pub state: Joiner,
+    pub tallies: Tallies,
+}
+
+// The receiver in numbers alone, as it is kept and as it crosses to C. Any byte but 0 is overflow.
+#[repr(C)]
+pub struct Stored {
+    pub held: usize,
+    pub nfrag: usize,
+    pub count: u8,
+    pub crc_mask: u8,
+    pub overflow: u8,
     pub tallies: Tallies,
 }
 
@@ -78,6 +92,16 @@ pub struct Pushed {
 pub enum Fresh {
     Refused(u8),
     Ready(Reassembler),
+}
+
+// A flag as a byte.
+fn byte(b: bool) -> u8
+    ensures { λ r. ⌜ r ≡ num b ⌝ }
+{
+    if b {
+        return 1;
+    }
+    0
 }
 
 // Where a tail goes: after what is held, or after the first byte.
@@ -276,7 +300,7 @@ impl Joiner {
     }
 
     // The refusal that comes before any other, 17 or 9, or 0 for none.
-    fn refusal(self, len: usize) -> u8
+    pub fn refusal(self, len: usize) -> u8
         ensures { λ r. ⌜ r ≡ refusalOf self len ⌝ }
     {
         let held = self.held;
@@ -334,6 +358,22 @@ impl Joiner {
 }
 
 impl Tallies {
+    // The same, tally by tally.
+    fn copied(self) -> Tallies
+        ensures { λ r. ⌜ r ≡ self ⌝ }
+    {
+        Tallies {
+            offered: self.offered,
+            more: self.more,
+            done: self.done,
+            wrong_length: self.wrong_length,
+            no_fragment: self.no_fragment,
+            overflow: self.overflow,
+            limit: self.limit,
+            check: self.check,
+        }
+    }
+
     // A tally is already the largest 64-bit number. Where one is, so are all bits of the eight together: that is tested first.
     fn full(self) -> bool
         ensures { λ r. ⌜ r ≡ isFull self ⌝ }
@@ -506,5 +546,42 @@ impl Reassembler {
             };
         }
         tallies.counted(old.pushed(store, f, field))
+    }
+}
+
+impl Stored {
+    // A receiver as it is kept.
+    pub fn of(receiver: Reassembler) -> Stored
+        ensures { λ r. ⌜ r ≡ storedOf receiver ⌝ }
+    {
+        let state = receiver.state;
+        let counted = receiver.tallies;
+        let tallies = counted.copied();
+        Stored {
+            held: state.held,
+            nfrag: state.nfrag,
+            count: state.count,
+            crc_mask: state.crc_mask,
+            overflow: byte(state.overflow),
+            tallies,
+        }
+    }
+
+    // And back.
+    pub fn receiver(self) -> Reassembler
+        ensures { λ r. ⌜ r ≡ receiverOf self ⌝ }
+    {
+        let counted = self.tallies;
+        let tallies = counted.copied();
+        Reassembler {
+            state: Joiner {
+                held: self.held,
+                nfrag: self.nfrag,
+                count: self.count,
+                crc_mask: self.crc_mask,
+                overflow: self.overflow != 0,
+            },
+            tallies,
+        }
     }
 }

@@ -34,8 +34,12 @@ pub const FRAGMENT: u8 = 14;
 pub const MARKER: u8 = 15;
 // The reply is over 3 or the hint over 7.
 pub const CONTROL: u8 = 16;
-// The store has not 5,000 bytes, or the state holds over 5,000 or counts over 255.
+// The store has not 5,000 bytes, the lent bytes for kept stores are not 40,000, or a state holds over 5,000 or counts over 255.
 pub const STATE: u8 = 17;
+// The name has not 1 to 8 bytes, or is not kept.
+pub const NAME: u8 = 20;
+// Eight states are kept already.
+pub const KEPT: u8 = 21;
 // A tally is already the largest 64-bit number.
 pub const TALLY: u8 = 27;
 

@@ -20,11 +20,11 @@ use lines::field::two_words;
 use texts::part::piece;
 
 // How many kinds there are.
-pub const KINDS: usize = 15;
+pub const KINDS: usize = 16;
 
 // Their names, in order.
-const NAMES: [u8; 90] =
-    *b"crc push bfi text take digits text7 val count fragment frame history encode summary decode";
+const NAMES: [u8; 98] =
+    *b"crc push bfi text take digits text7 val count fragment frame history encode summary decode channel";
 
 // Makes the call of a line again and compares the answers.
 pub fn run(kind: usize, line: &[u8]) -> Outcome {
@@ -33,6 +33,7 @@ pub fn run(kind: usize, line: &[u8]) -> Outcome {
         2 => push(line, true),
         8 => count(line),
         11 => histories::history(line),
+        15 => histories::channel::channel(line),
         _ => plain(kind, line),
     }
 }

@@ -40,10 +40,10 @@ numbered-length opening n text =
     let rest = ascii ": " ++ (text ++ (10 ∷ [])) in
     omega (arith, length-append opening (numeralOf n ++ rest), length-append (numeralOf n) rest, length-append text (10 ∷ []), numeral-length n)
 
-refusal-length : (n : ℕ) → length (refusalLine n) ≤ 471
+refusal-length : (n : ℕ) → length (refusalLine n) ≤ 533
 unfolding refusalLine reasonOf
 refusal-length n =
-    let few : length (reasonOf n) ≤ 440 = piece-length 124 n _ in
+    let few : length (reasonOf n) ≤ 502 = piece-length 124 n _ in
     omega (arith, numbered-length (ascii "refused ") n (reasonOf n), few)
 
 error-length : (number : ℕ) (what : List ℕ) → length (errorLine number what) ≤ length what + 35
@@ -58,7 +58,7 @@ framed-length field (refused n) f e = absurd (answer-not (sym e))
 framed-length field (answer v) f e = framed-fits field v plain marker f e .0
 
 -- one more line, or a refusal in place of all
-lined-length : (x b : ℕ) (o : Outcome (List ℕ)) → ((f : List ℕ) → o ≡ answer f → length f * 2 + 1 ≤ x) → (others : List ℕ) → length others ≤ b → 471 ≤ b
+lined-length : (x b : ℕ) (o : Outcome (List ℕ)) → ((f : List ℕ) → o ≡ answer f → length f * 2 + 1 ≤ x) → (others : List ℕ) → length others ≤ b → 533 ≤ b
     → length (linedBy o others) ≤ b + x
 unfolding linedBy
 lined-length x b (refused n) each others h l = omega (arith, refusal-length n, l)
@@ -67,12 +67,12 @@ lined-length x b (answer f) each others h l =
 
 module _ (message : List ℕ) (field mask : ℕ) where
   -- n lines
-  frames-length : (n k : ℕ) → length (framesOf message field mask n k) ≤ n * (field * 2 + 7) + 471
+  frames-length : (n k : ℕ) → length (framesOf message field mask n k) ≤ n * (field * 2 + 7) + 533
   unfolding framesOf
   frames-length zero k = omega arith
   frames-length (suc n) k =
       let o = framedOf field (sendOf message field mask k) in
-      let b = n * (field * 2 + 7) + 471 in
+      let b = n * (field * 2 + 7) + 533 in
       omega (
         arith,
         lined-length (field * 2 + 7) b o (λ f e. omega (arith, framed-length field (sendOf message field mask k) f e)) (framesOf message field mask n (k + 1)) (frames-length n (k + 1)) (omega arith),
@@ -103,12 +103,12 @@ module _ (message : List ℕ) (field mask : ℕ) where
       )))
 
   -- a first fragment that is refused is the whole text
-  refused-length : (o : Outcome (List ℕ)) → accepted o ≡ false → (others : List ℕ) → length (linedBy (framedOf field o) others) ≤ 471
+  refused-length : (o : Outcome (List ℕ)) → accepted o ≡ false → (others : List ℕ) → length (linedBy (framedOf field o) others) ≤ 533
   unfolding linedBy framedOf
   refused-length (refused n) e others = refusal-length n
   refused-length (answer v) e others = absurd (true≢false e)
 
-  all-length : (n : ℕ) → n ≡ countOf (length message) field → length (framesOf message field mask n 0) ≤ 12654
+  all-length : (n : ℕ) → n ≡ countOf (length message) field → length (framesOf message field mask n 0) ≤ 12716
   unfolding framesOf
   all-length zero e = omega arith
   all-length (suc n) e =
@@ -116,7 +116,7 @@ module _ (message : List ℕ) (field mask : ℕ) where
       (λ a. omega (arith, frames-length (suc n) 0, ap (λ (c : ℕ). c * (field * 2 + 7)) e, count-bytes (send-accepted message field mask a)))
       (λ a. omega (arith, refused-length (sendOf message field mask 0) a (framesOf message field mask n 1)))
 
-  counted-length : (o : Outcome ℕ) → ((n : ℕ) → o ≡ answer n → n ≡ countOf (length message) field) → length (countedText message field mask o) ≤ 12654
+  counted-length : (o : Outcome ℕ) → ((n : ℕ) → o ≡ answer n → n ≡ countOf (length message) field) → length (countedText message field mask o) ≤ 12716
   unfolding countedText
   counted-length (refused n) is = omega (arith, refusal-length n)
   counted-length (answer n) is = all-length n (is n refl)
@@ -127,23 +127,23 @@ module _ (message : List ℕ) (field mask : ℕ) where
 
 -- ---- a line
 
-coded-length : (field mask : ℕ) (o : Outcome Coded) → length (codedText field mask o) ≤ 12654
+coded-length : (field mask : ℕ) (o : Outcome Coded) → length (codedText field mask o) ≤ 12716
 unfolding codedText
 coded-length field mask (refused n) = omega (arith, refusal-length n)
 coded-length field mask (answer c) = counted-length (c .bytes) field mask (countFor (length (c .bytes)) field) (count-is (c .bytes) field mask)
 
-data-length : (field mask command : ℕ) (d : List ℕ) → length (dataText field mask command d) ≤ 12654
+data-length : (field mask command : ℕ) (d : List ℕ) → length (dataText field mask command d) ≤ 12716
 unfolding dataText
 data-length field mask command d = coded-length field mask (codeOf command d)
 
-read-length : (number : ℕ) (text : List ℕ) → length text ≤ 12654 → (r : Read) → length (readOr number text r) ≤ 12654
+read-length : (number : ℕ) (text : List ℕ) → length text ≤ 12716 → (r : Read) → length (readOr number text r) ≤ 12716
 unfolding readOr unreadLine
 read-length number text l (Bytes n) = l
 read-length number text l NoDigit = omega (arith, error-length number (ascii "no hexadecimal digit"))
 read-length number text l Odd = omega (arith, error-length number (ascii "an odd number of digits"))
 read-length number text l TooLong = omega (arith, error-length number (ascii "too long"))
 
-pub line-length : (field mask number : ℕ) (line : List ℕ) → length (lineText field mask number line) ≤ 12654
+pub line-length : (field mask number : ℕ) (line : List ℕ) → length (lineText field mask number line) ≤ 12716
 unfolding lineText spelledText
 line-length field mask number line =
     either (eqb (length line) 0) _ _ (omega arith)
@@ -152,6 +152,6 @@ line-length field mask number line =
     (read-length number (dataText field mask (commandOf (before 32 line)) (bytesOf (behind 32 line)))
     (data-length field mask (commandOf (before 32 line)) (bytesOf (behind 32 line))) (readOf lineRoom (behind 32 line)))))
   where
-    either : (t : Bool) (a b : List ℕ) → length a ≤ 12654 → length b ≤ 12654 → length (pick t a b) ≤ 12654
+    either : (t : Bool) (a b : List ℕ) → length a ≤ 12716 → length b ≤ 12716 → length (pick t a b) ≤ 12716
     either true a b x y = rw (pick-true a b refl) x
     either false a b x y = rw (pick-false a b refl) y

@@ -33,7 +33,7 @@ spelledOf command d = wordOf command ++ digitsOf d
 
 -- the refusals of documents 01 and 02 in short: the reason of a number
 unfoldable pub reasonOf : ℕ → List ℕ
-reasonOf n = pieceOf 124 n (ascii "|unknown command|data over 4,999 bytes or message over 5,000|frame too short|bad call|bad format|output too short|message cannot be decoded|field not 3 to 512|mask not the top 1 to 7 bits of a byte|empty message|first byte 0x80 or more|too many fragments for the mask|no such fragment|fragment empty or over the field|marker 0x14|reply over 3 or hint over 7|store or state out of bounds||||||||||a tally is already the largest 64-bit number")
+reasonOf n = pieceOf 124 n (ascii "|unknown command|data over 4,999 bytes or message over 5,000|frame too short|bad call|bad format|output too short|message cannot be decoded|field not 3 to 512|mask not the top 1 to 7 bits of a byte|empty message|first byte 0x80 or more|too many fragments for the mask|no such fragment|fragment empty or over the field|marker 0x14|reply over 3 or hint over 7|store or state out of bounds|||name not 1 to 8 bytes or not kept|eight states are kept already||||||a tally is already the largest 64-bit number")
 
 -- an opening, a number, a colon and a text
 unfoldable pub numberedLine : List ℕ → ℕ → List ℕ → List ℕ

@@ -14,11 +14,12 @@ use bits_write::copy;
 const WORDS: [u8; 17] = *b"ax25|long|generic";
 
 // The refusals of documents 01 and 02 by number, in order, from 0 on, which is none. A number without a refusal has no reason.
-const REASONS: [u8; 440] =
+const REASONS: [u8; 502] =
     *b"|unknown command|data over 4,999 bytes or message over 5,000|frame too short|bad call|bad format|output too short\
 |message cannot be decoded|field not 3 to 512|mask not the top 1 to 7 bits of a byte|empty message|first byte 0x80 or more\
 |too many fragments for the mask|no such fragment|fragment empty or over the field|marker 0x14\
-|reply over 3 or hint over 7|store or state out of bounds||||||||||a tally is already the largest 64-bit number";
+|reply over 3 or hint over 7|store or state out of bounds|||name not 1 to 8 bytes or not kept|eight states are kept already\
+||||||a tally is already the largest 64-bit number";
 
 // The word of a command. The next place.
 pub fn put_word(out: &mut [u8], at: usize, command: u8) -> usize

@@ -1,89 +1,38 @@
 -- What crosses the C boundary. Each struct that a call hands back is defined whole from the call's answer: document 01's number and values for
 -- each case, and 0 in every field that has no meaning in that case.
 -- Assumes nothing.
-use mathlib.Core.Bool.{Bool, true, false, not}
-use mathlib.Core.List.{List}
+use mathlib.Core.Bool.{true, false}
+use mathlib.Core.List.{List, map}
 use Prim.Native.Nat.{ℕ}
-use lib.Dec.{eqb}
-use Rattle.laws.specs.Bits.{num}
 use Rattle.refusals.specs.Outcome.{Outcome, refused, answer, Left}
 use Rattle.frame.specs.declared.Control.{Control}
 use Rattle.receiver.specs.Join.{After, Heard, dropped, more, done}
 use Rattle.receiver.specs.Join as join
 use Rattle.receiver.specs.New.{noTallies}
+use Rattle.receiver.specs.Stored.{flag, receiverOf, storedOf}
 use Rattle.receiver.specs.Tally.{causeNumber}
 use Rattle.receiver.specs.declared.Reassembler.{Reassembler}
-use Rattle.receiver.specs.declared.Tallies.{Tallies}
+use Rattle.receiver.specs.declared.Stored.{Stored}
+use Rattle.kept.specs.Keep.{KeepLeft, ReturnLeft, DropLeft}
+use Rattle.kept.specs.declared.Slot.{Slot}
+use Rattle.kept.specs.declared.Kept.{Kept}
 use Rattle.kiss.specs.Codec.{Summary}
 use Rattle.xara.specs.declared.XaraAnswer.{XaraAnswer}
 use Rattle.xara.specs.declared.XaraControl.{XaraControl}
-use Rattle.xara.specs.declared.XaraTallies.{XaraTallies}
-use Rattle.xara.specs.declared.XaraReceiver.{XaraReceiver}
 use Rattle.xara.specs.declared.XaraFresh.{XaraFresh}
 use Rattle.xara.specs.declared.XaraPushed.{XaraPushed}
+use Rattle.xara.specs.declared.XaraKeeping.{XaraKeeping}
 use Rattle.xara.specs.declared.XaraEncoded.{XaraEncoded}
 use Rattle.xara.specs.declared.XaraSummary.{XaraSummary}
 use Rattle.xara.specs.declared.XaraDecoded.{XaraDecoded}
 
 -- ---- what C passes in
 
--- a byte as a flag: every byte but 0 is true
-abbrev pub flag : ℕ → Bool
-flag b = not (eqb b 0)
-
 -- the control byte's parts
 abbrev pub controlOf : XaraControl → Control
 controlOf c = record { reply = c .reply; compressed = flag (c .compressed); hint = c .hint }
 
--- the eight tallies
-abbrev pub talliesOf : XaraTallies → Tallies
-talliesOf t =
-    record {
-      offered = t .offered;
-      more = t .more;
-      done = t .done;
-      «wrong_length» = t .«wrong_length»;
-      «no_fragment» = t .«no_fragment»;
-      overflow = t .overflow;
-      limit = t .limit;
-      check = t .check;
-    }
-
--- a receiver's state with its tallies
-abbrev pub receiverOf : XaraReceiver → Reassembler
-receiverOf r =
-    record {
-      state = record { held = r .held; nfrag = r .nfrag; count = r .count; «crc_mask» = r .«crc_mask»; overflow = flag (r .overflow) };
-      tallies = talliesOf (r .tallies);
-    }
-
 -- ---- what C is handed back
-
--- the eight tallies
-abbrev pub toTallies : Tallies → XaraTallies
-toTallies t =
-    record {
-      offered = t .offered;
-      more = t .more;
-      done = t .done;
-      «wrong_length» = t .«wrong_length»;
-      «no_fragment» = t .«no_fragment»;
-      overflow = t .overflow;
-      limit = t .limit;
-      check = t .check;
-    }
-
--- a receiver's state with its tallies; its overflow is 0 or 1
-abbrev pub toReceiver : Reassembler → XaraReceiver
-toReceiver r =
-    record {
-      held = r .state .held;
-      nfrag = r .state .nfrag;
-      count = r .state .count;
-      «crc_mask» = r .state .«crc_mask»;
-      overflow = num (r .state .overflow);
-      tallies = toTallies (r .tallies);
-    }
 
 -- a length or a count, or a refusal's number
 abbrev pub toAnswer : Outcome ℕ → XaraAnswer
@@ -100,21 +49,47 @@ toFresh (refused n) =
     record {
       ok = false;
       refusal = n;
-      receiver = record { held = 0; nfrag = 0; count = 0; «crc_mask» = 0; overflow = 0; tallies = toTallies noTallies };
+      receiver = record { held = 0; nfrag = 0; count = 0; «crc_mask» = 0; overflow = 0; tallies = noTallies };
     }
-toFresh (answer r) = record { ok = true; refusal = 0; receiver = toReceiver r }
+toFresh (answer r) = record { ok = true; refusal = 0; receiver = storedOf r }
 
 -- what a push or a join answers: kind 0 refused with its number, 1 dropped with its cause, 2 more, 3 done with the message's length. A
 -- refusal "changes nothing in the receiver": the very struct that came in is handed back. Else it is the receiver that the call leaves
-abbrev pub toPushed : XaraReceiver → Heard → Reassembler → XaraPushed
+abbrev pub toPushed : Stored → Heard → Reassembler → XaraPushed
 toPushed came (join.refused n) left = record { kind = 0; refusal = n; cause = 0; length = 0; receiver = came }
-toPushed came (dropped c) left = record { kind = 1; refusal = 0; cause = causeNumber c; length = 0; receiver = toReceiver left }
-toPushed came more left = record { kind = 2; refusal = 0; cause = 0; length = 0; receiver = toReceiver left }
-toPushed came (done n message) left = record { kind = 3; refusal = 0; cause = 0; length = n; receiver = toReceiver left }
+toPushed came (dropped c) left = record { kind = 1; refusal = 0; cause = causeNumber c; length = 0; receiver = storedOf left }
+toPushed came more left = record { kind = 2; refusal = 0; cause = 0; length = 0; receiver = storedOf left }
+toPushed came (done n message) left = record { kind = 3; refusal = 0; cause = 0; length = n; receiver = storedOf left }
 
 -- the same beside the store afterwards
-abbrev pub toPushedWith : XaraReceiver → After Reassembler → XaraPushed × List ℕ
+abbrev pub toPushedWith : Stored → After Reassembler → XaraPushed × List ℕ
 toPushedWith came a = (toPushed came (a .heard) (a .receiver), a .store)
+
+-- a receiver that is returned to beside the store afterwards
+abbrev pub toFreshWith : ReturnLeft → XaraFresh × List ℕ
+toFreshWith a = (toFresh (a .outcome), a .store)
+
+-- a slot whose flag is 0 or 1
+abbrev pub toSlot : Slot → Slot
+toSlot s = record { len = s .len; name = s .name; receiver = storedOf (receiverOf (s .receiver)) }
+
+-- the kept states with such slots
+abbrev pub toKept : Kept → Kept
+toKept k = record { slots = map toSlot (k .slots) }
+
+-- the place of a name beside the kept states that the call leaves, with flags that are 0 or 1; or a refusal's number beside the very struct that
+-- came in, which is what a refused call leaves
+abbrev pub toKeeping : Outcome ℕ → Kept → XaraKeeping
+toKeeping (refused n) left = record { ok = false; refusal = n; place = 0; kept = left }
+toKeeping (answer i) left = record { ok = true; refusal = 0; place = i; kept = toKept left }
+
+-- what a keep answers, beside the lent bytes afterwards
+abbrev pub toKeepingWith : KeepLeft → XaraKeeping × List ℕ
+toKeepingWith a = (toKeeping (a .outcome) (a .kept), a .lent)
+
+-- what a drop answers
+abbrev pub toDropped : DropLeft → XaraKeeping
+toDropped a = toKeeping (a .outcome) (a .kept)
 
 -- the message's length and the data's type, or a refusal's number
 abbrev pub toEncoded : Outcome (ℕ × ℕ) → XaraEncoded

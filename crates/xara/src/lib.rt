@@ -9,22 +9,29 @@ ghost use Rattle.sender.specs.Send.{countFor, sendOf};
 ghost use Rattle.frame.specs.Frame.{buildOf};
 ghost use Rattle.receiver.specs.Join.{heardOf};
 ghost use Rattle.receiver.specs.New.{newOf};
+ghost use Rattle.receiver.specs.Stored.{receiverOf, storedOf};
 ghost use Rattle.receiver.specs.Tally.{causeNumber, joinTallied, pushTallied, resetTallied};
 ghost use Rattle.kiss.specs.Codec.{codeOf, summaryOf, decodeOf};
 ghost use Rattle.kiss.specs.Told.{codeInto, decodedOf, decodeInto};
-ghost use Rattle.xara.specs.Told.{controlOf, talliesOf, receiverOf, toTallies, toReceiver, toAnswer, toAnswerWith, toFresh, toPushed, toPushedWith, toEncodedWith, toSummary, toDecoded, toDecodedWith};
-ghost use Rattle.laws.specs.Bits.{num};
+ghost use Rattle.kept.specs.Keep.{noneKept, keepOf, returnOf, dropOf};
+ghost use Rattle.kept.specs.Told.{namedOf};
+ghost use Rattle.xara.specs.Told.{controlOf, toAnswer, toAnswerWith, toFresh, toFreshWith, toPushed, toPushedWith, toSlot, toKept, toKeeping, toKeepingWith, toDropped, toEncodedWith, toSummary, toDecoded, toDecodedWith};
 use ax25_address::classify::code;
 use frame::Control;
+use kept::Keeping;
+use kept::Kept;
+use kept::Named;
+use kept::Returned;
+use kept::Slot;
 use kiss::Decoded;
 use kiss::Encoded;
 use kiss::Summarised;
 use receiver::Cause;
 use receiver::Fresh;
-use receiver::Joiner;
 use receiver::Push;
 use receiver::Pushed;
 use receiver::Reassembler;
+use receiver::Stored;
 use receiver::Tallies;
 use refusals::Answer;
 use sender::Counted;
@@ -45,36 +52,12 @@ pub struct XaraControl {
     pub hint: u8,
 }
 
-// How many frames and fragments a receiver was offered and did not refuse, and how many of them had each answer.
-#[repr(C)]
-pub struct XaraTallies {
-    pub offered: u64,
-    pub more: u64,
-    pub done: u64,
-    pub wrong_length: u64,
-    pub no_fragment: u64,
-    pub overflow: u64,
-    pub limit: u64,
-    pub check: u64,
-}
-
-// A receiver's state. Any byte but 0 is overflow.
-#[repr(C)]
-pub struct XaraReceiver {
-    pub held: usize,
-    pub nfrag: usize,
-    pub count: u8,
-    pub crc_mask: u8,
-    pub overflow: u8,
-    pub tallies: XaraTallies,
-}
-
-// ok with a new receiver, or a refusal's number.
+// ok with a receiver, new or returned to, or a refusal's number.
 #[repr(C)]
 pub struct XaraFresh {
     pub ok: bool,
     pub refusal: u8,
-    pub receiver: XaraReceiver,
+    pub receiver: Stored,
 }
 
 // What a push or a join answers, by kind: 0 refused with its number, 1 dropped with its cause, 2 more, 3 done with the message's length; and
@@ -85,7 +68,16 @@ pub struct XaraPushed {
     pub refusal: u8,
     pub cause: u8,
     pub length: usize,
-    pub receiver: XaraReceiver,
+    pub receiver: Stored,
+}
+
+// ok with the place of a name, or a refusal's number; and the kept states.
+#[repr(C)]
+pub struct XaraKeeping {
+    pub ok: bool,
+    pub refusal: u8,
+    pub place: usize,
+    pub kept: Kept,
 }
 
 // ok with the data's type and the message's length, or a refusal's number.
@@ -114,16 +106,6 @@ pub struct XaraDecoded {
     pub refusal: u8,
     pub command: u8,
     pub length: usize,
-}
-
-// A flag as a byte.
-fn byte(b: bool) -> u8
-    ensures { λ r. ⌜ r ≡ num b ⌝ }
-{
-    if b {
-        return 1;
-    }
-    0
 }
 
 fn with_refusal(refusal: u8) -> XaraAnswer
@@ -156,71 +138,6 @@ fn said(answer: Answer) -> XaraAnswer
     }
 }
 
-// Tallies as the receiver has them, and back.
-fn tallies_read(tallies: XaraTallies) -> Tallies
-    ensures { λ r. ⌜ r ≡ talliesOf tallies ⌝ }
-{
-    Tallies {
-        offered: tallies.offered,
-        more: tallies.more,
-        done: tallies.done,
-        wrong_length: tallies.wrong_length,
-        no_fragment: tallies.no_fragment,
-        overflow: tallies.overflow,
-        limit: tallies.limit,
-        check: tallies.check,
-    }
-}
-
-fn tallies_shown(tallies: Tallies) -> XaraTallies
-    ensures { λ r. ⌜ r ≡ toTallies tallies ⌝ }
-{
-    XaraTallies {
-        offered: tallies.offered,
-        more: tallies.more,
-        done: tallies.done,
-        wrong_length: tallies.wrong_length,
-        no_fragment: tallies.no_fragment,
-        overflow: tallies.overflow,
-        limit: tallies.limit,
-        check: tallies.check,
-    }
-}
-
-// A receiver's state as the receiver has it, and back.
-fn read(receiver: XaraReceiver) -> Reassembler
-    ensures { λ r. ⌜ r ≡ receiverOf receiver ⌝ }
-{
-    let counted = receiver.tallies;
-    let tallies = tallies_read(counted);
-    Reassembler {
-        state: Joiner {
-            held: receiver.held,
-            nfrag: receiver.nfrag,
-            count: receiver.count,
-            crc_mask: receiver.crc_mask,
-            overflow: receiver.overflow != 0,
-        },
-        tallies,
-    }
-}
-
-fn shown(receiver: Reassembler) -> XaraReceiver
-    ensures { λ r. ⌜ r ≡ toReceiver receiver ⌝ }
-{
-    let state = receiver.state;
-    let counted = receiver.tallies;
-    let tallies = tallies_shown(counted);
-    XaraReceiver {
-        held: state.held,
-        nfrag: state.nfrag,
-        count: state.count,
-        crc_mask: state.crc_mask,
-        overflow: byte(state.overflow),
-        tallies,
-    }
-}
-
 // The number of a cause.
 fn cause_number(cause: Cause) -> u8
     ensures { λ r. ⌜ r ≡ causeNumber cause ⌝ }
@@ -235,11 +152,11 @@ fn cause_number(cause: Cause) -> u8
 }
 
 // The struct that came in, field by field: what lies between the fields is not carried along.
-fn copied(receiver: XaraReceiver) -> XaraReceiver
+fn copied(receiver: Stored) -> Stored
     ensures { λ r. ⌜ r ≡ receiver ⌝ }
 {
     let tallies = receiver.tallies;
-    XaraReceiver {
+    Stored {
         held: receiver.held,
         nfrag: receiver.nfrag,
         count: receiver.count,
@@ -250,12 +167,12 @@ fn copied(receiver: XaraReceiver) -> XaraReceiver
 }
 
 // What a push or a join answers. Where it refuses, the receiver is the one that came in.
-fn heard(came: XaraReceiver, pushed: Pushed) -> XaraPushed
+fn heard(came: Stored, pushed: Pushed) -> XaraPushed
     ensures { λ r. ⌜ ((store : List ℕ) → r ≡ toPushed came (heardOf (pushed .answer) store) (pushed .receiver)) ⌝ }
 {
     let answer = pushed.answer;
     let left = pushed.receiver;
-    let receiver = shown(left);
+    let receiver = Stored::of(left);
     match answer {
         Push::Refused(refusal) => XaraPushed {
             kind: 0,
@@ -284,6 +201,86 @@ fn heard(came: XaraReceiver, pushed: Pushed) -> XaraPushed
             cause: 0,
             length,
             receiver,
+        },
+    }
+}
+
+// A slot whose flag is 0 or 1.
+fn slot_shown(slot: Slot) -> Slot
+    ensures { λ r. ⌜ r ≡ toSlot slot ⌝ }
+{
+    let len = slot.len;
+    let name = slot.name;
+    let stored = slot.receiver;
+    Slot {
+        len,
+        name,
+        receiver: Stored::of(stored.receiver()),
+    }
+}
+
+// The kept states with flags that are 0 or 1. Only what differs is stored.
+fn kept_shown(kept: Kept) -> Kept
+    ensures { λ r. ⌜ r ≡ toKept kept ⌝ }
+{
+    let mut slots = kept.slots;
+    let mut i: usize = 0;
+    while i < Kept::SLOTS {
+        let slot = slots[i];
+        let stored = slot.receiver;
+        if 1 < stored.overflow {
+            slots[i] = slot_shown(slot);
+        }
+        i += 1;
+    }
+    Kept { slots }
+}
+
+// What a keep or a drop answers. Where it refuses, the kept states are those that came in.
+fn keeping(left: Keeping) -> XaraKeeping
+    ensures { λ r. ⌜ r ≡ toKeeping (namedOf (left .answer)) (left .kept) ⌝ }
+{
+    let answer = left.answer;
+    let kept = left.kept;
+    match answer {
+        Named::Refused(refusal) => XaraKeeping {
+            ok: false,
+            refusal,
+            place: 0,
+            kept,
+        },
+        Named::At(place) => XaraKeeping {
+            ok: true,
+            refusal: 0,
+            place,
+            kept: kept_shown(kept),
+        },
+    }
+}
+
+// A refusal's number beside a receiver of zeros.
+fn no_receiver(refusal: u8) -> XaraFresh
+    ensures { λ r. ⌜ r ≡ toFresh (refused refusal) ⌝ }
+{
+    XaraFresh {
+        ok: false,
+        refusal,
+        receiver: Stored {
+            held: 0,
+            nfrag: 0,
+            count: 0,
+            crc_mask: 0,
+            overflow: 0,
+            tallies: Tallies {
+                offered: 0,
+                more: 0,
+                done: 0,
+                wrong_length: 0,
+                no_fragment: 0,
+                overflow: 0,
+                limit: 0,
+                check: 0,
+            },
         },
     }
 }
@@ -366,31 +363,11 @@ pub extern "C" fn xara_receiver_new(crc_mask: u8) -> XaraFresh
     ensures { λ r. ⌜ r ≡ toFresh (newOf «crc_mask») ⌝ }
 {
     match Reassembler::with_crc_mask(crc_mask) {
-        Fresh::Refused(refusal) => XaraFresh {
-            ok: false,
-            refusal,
-            receiver: XaraReceiver {
-                held: 0,
-                nfrag: 0,
-                count: 0,
-                crc_mask: 0,
-                overflow: 0,
-                tallies: XaraTallies {
-                    offered: 0,
-                    more: 0,
-                    done: 0,
-                    wrong_length: 0,
-                    no_fragment: 0,
-                    overflow: 0,
-                    limit: 0,
-                    check: 0,
-                },
-            },
-        },
+        Fresh::Refused(refusal) => no_receiver(refusal),
         Fresh::Ready(receiver) => XaraFresh {
             ok: true,
             refusal: 0,
-            receiver: shown(receiver),
+            receiver: Stored::of(receiver),
         },
     }
 }
@@ -398,35 +375,85 @@ pub extern "C" fn xara_receiver_new(crc_mask: u8) -> XaraFresh
 // A frame of field + 3 bytes. The store has 5,000 bytes.
 #[no_mangle]
 pub extern "C" fn xara_receiver_push(
-    receiver: XaraReceiver,
+    receiver: Stored,
     store: &mut [u8],
     frame: &[u8],
     field: usize,
 ) -> XaraPushed
     ensures { λ r. ⌜ (r, now (store .exit)) ≡ toPushedWith receiver (pushTallied (receiverOf receiver) (now (store .entry)) (now (frame .entry)) field) ⌝ }
 {
-    heard(receiver, read(receiver).push(store, frame, field))
+    heard(receiver, receiver.receiver().push(store, frame, field))
 }
 
 // A fragment: the n first bytes of f.
 #[no_mangle]
 pub extern "C" fn xara_receiver_join(
-    receiver: XaraReceiver,
+    receiver: Stored,
     store: &mut [u8],
     f: &[u8],
     n: usize,
 ) -> XaraPushed
     ensures { λ r. ⌜ (r, now (store .exit)) ≡ toPushedWith receiver (joinTallied (receiverOf receiver) (now (store .entry)) (now (f .entry)) n) ⌝ }
 {
-    heard(receiver, read(receiver).join(store, f, n))
+    heard(receiver, receiver.receiver().join(store, f, n))
 }
 
 // Nothing held, fragments 0, no overflow. The tallies are kept.
 #[no_mangle]
-pub extern "C" fn xara_receiver_reset(receiver: XaraReceiver) -> XaraReceiver
-    ensures { λ r. ⌜ r ≡ toReceiver (resetTallied (receiverOf receiver)) ⌝ }
+pub extern "C" fn xara_receiver_reset(receiver: Stored) -> Stored
+    ensures { λ r. ⌜ r ≡ storedOf (resetTallied (receiverOf receiver)) ⌝ }
 {
-    shown(read(receiver).reset())
+    Stored::of(receiver.receiver().reset())
+}
+
+// Nothing is kept.
+#[no_mangle]
+pub extern "C" fn xara_kept_none() -> Kept
+    ensures { λ r. ⌜ r ≡ noneKept ⌝ }
+{
+    Kept::none()
+}
+
+// Keeps a receiver's state under a name, and its store of 5,000 bytes in the 40,000 lent bytes.
+#[no_mangle]
+pub extern "C" fn xara_kept_keep(
+    kept: Kept,
+    receiver: Stored,
+    store: &[u8],
+    lent: &mut [u8],
+    name: &[u8],
+) -> XaraKeeping
+    ensures { λ r. ⌜ (r, now (lent .exit)) ≡ toKeepingWith (keepOf kept (receiverOf receiver) (now (store .entry)) (now (lent .entry)) (now (name .entry))) ⌝ }
+{
+    keeping(kept.keep(receiver.receiver(), store, lent, name))
+}
+
+// The state that is kept under a name, and its bytes to the store. The name stays kept.
+#[no_mangle]
+pub extern "C" fn xara_kept_return(
+    kept: Kept,
+    store: &mut [u8],
+    lent: &[u8],
+    name: &[u8],
+) -> XaraFresh
+    ensures { λ r. ⌜ (r, now (store .exit)) ≡ toFreshWith (returnOf kept (now (store .entry)) (now (lent .entry)) (now (name .entry))) ⌝ }
+{
+    match kept.return_to(store, lent, name) {
+        Returned::Refused(refusal) => no_receiver(refusal),
+        Returned::Ready(receiver) => XaraFresh {
+            ok: true,
+            refusal: 0,
+            receiver: Stored::of(receiver),
+        },
+    }
+}
+
+// Makes the slot of a name free. No lent byte is written.
+#[no_mangle]
+pub extern "C" fn xara_kept_drop(kept: Kept, lent: &[u8], name: &[u8]) -> XaraKeeping
+    ensures { λ r. ⌜ r ≡ toDropped (dropOf kept (now (lent .entry)) (now (name .entry))) ⌝ }
+{
+    keeping(kept.drop_name(lent, name))
 }
 
 // The message that data is coded to.

@@ -4,6 +4,7 @@ pub mod bits;
 pub mod cases;
 pub mod frames;
 pub mod hex;
+pub mod kept;
 pub mod messages;
 pub mod random;
 mod receiver;

@@ -45,6 +45,31 @@ fn every_request_is_answered() {
     assert_eq!(ask(requests), expected);
 }
 
+/// A message is left under a name, another receiver takes its place, and the message is completed.
+#[test]
+fn a_receiver_is_kept_and_returned_to() {
+    let requests = b"new a F0\npush a 5 C040ACB70101A38C\nkeep a 6E6574\nnew a F8\npush a 5 4000104014005242\n\
+        return a 6E6574\npush a 5 4000104014005242\nkeep a -\nkeep a 666D\ndrop 6E6574\nreturn a 6E6574\ndrop -\n\
+        keep b 666D\nkeep a fm\n";
+    let expected = [
+        "ok",
+        "more",
+        "0",
+        "ok",
+        "done 40001040",
+        "ok",
+        "done 40ACB701001040",
+        "refused 20",
+        "1",
+        "0",
+        "refused 20",
+        "refused 20",
+        "error: no receiver b",
+        "error: not bytes in capital hexadecimal: fm",
+    ];
+    assert_eq!(ask(requests), expected);
+}
+
 fn recorded() -> String {
     let out = Command::new(env!("CARGO_BIN_EXE_record")).output().unwrap();
     assert!(out.status.success());
@@ -54,7 +79,7 @@ fn recorded() -> String {
 #[test]
 fn the_recorded_file_is_well_formed() {
     let file = recorded();
-    assert!(file.is_ascii() && file.ends_with('\n') && file.len() < 2_000_000);
+    assert!(file.is_ascii() && file.ends_with('\n') && file.len() < 2_500_000);
     for line in file.lines().filter(|line| !line.starts_with('#')) {
         assert!(line.split(' ').all(|word| !word.is_empty()), "{line}");
     }
@@ -110,6 +135,26 @@ fn every_mask_is_recorded_with_its_most_fragments_heard() {
         let wanted = format!("d{}d", "m".repeat(most - 1));
         let mut histories = file.lines().filter(|line| line.starts_with(&start));
         assert!(histories.any(|line| heard(line).contains(&wanted)), "{mask:02X}");
+    }
+}
+
+/// The worked example of 02's request E8, and each place and refusal in other lines.
+#[test]
+fn channels_are_recorded() {
+    let file = recorded();
+    let worked = "channel F0 p:5:C040ACB70101A38C=more k:6E6574=0 n:F8=ok p:5:4000104014005242=done:40001040 \
+        p:5:C040ACB70101A38C=more k:666D=1 r:6E6574=ok p:5:4000104014005242=done:40ACB701001040 x:6E6574=0 \
+        r:6E6574=refused:20 k:78=0 k:32=2 k:33=3 k:34=4 k:35=5 k:36=6 k:37=7 k:39=refused:21 k:666D=1 \
+        k:-=refused:20 k:6E696E656279746573=refused:20";
+    let mut lines = file.lines().filter(|line| line.starts_with("channel "));
+    assert_eq!(lines.next(), Some(worked));
+    let steps: Vec<&str> = lines.flat_map(|line| line.split(' ').skip(2)).collect();
+    let has = |start: &str, end: &str| steps.iter().any(|step| step.starts_with(start) && step.ends_with(end));
+    for place in 0..8 {
+        assert!(has("k:", &format!("={place}")) && has("x:", &format!("={place}")), "{place}");
+    }
+    for (start, end) in [("k:", "20"), ("k:", "21"), ("r:", "20"), ("x:", "20"), ("n:", "9")] {
+        assert!(has(start, &format!("=refused:{end}")), "{start} {end}");
     }
 }
 

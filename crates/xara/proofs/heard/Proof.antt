@@ -5,8 +5,8 @@ use mathlib.Core.Path.{refl}
 use Rattle.xara.proofs.heard.Statement.{statement}
 use Rattle.xara.proofs.heard.Tie as tie
 
-shown-requires : tie.Need-shown-requires
-shown-requires c κs = search needs
+of-requires : tie.Need-of-requires
+of-requires c κs = search needs
 
 enum-known-answer : tie.Need-enum-known-answer
 enum-known-answer c = search needs
@@ -32,19 +32,19 @@ returns c store = rw (c .copied .ensures, c .before .before .answer .given .1) r
 returns-2 : tie.Need-returns-2
 returns-2 c store =
     let a = c .before .before in
-    rw (c .cause-number .ensures, a .before .before .shown .ensures, a .answer2 .given .1) refl
+    rw (c .cause-number .ensures, a .before .before .of .ensures, a .answer2 .given .1) refl
 
 returns-3 : tie.Need-returns-3
-returns-3 c store = rw (c .before .before .shown .ensures, c .enum-told .given .1) refl
+returns-3 c store = rw (c .before .before .of .ensures, c .enum-told .given .1) refl
 
 returns-4 : tie.Need-returns-4
-returns-4 c store = rw (c .before .before .before .shown .ensures, c .before .answer3 .given .1) refl
+returns-4 c store = rw (c .before .before .before .of .ensures, c .before .answer3 .given .1) refl
 
 pub heard-spec : {M : Type 1} → statement M
 heard-spec =
     tie.close
     (tie.spec
-    shown-requires
+    of-requires
     enum-known-answer
     copied-requires
     enum-known-answer-2

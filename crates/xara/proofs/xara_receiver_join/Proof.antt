@@ -7,8 +7,8 @@ use Rattle.xara.proofs.ToldLaws.{beside}
 use Rattle.xara.proofs.xara_receiver_join.Statement.{statement}
 use Rattle.xara.proofs.xara_receiver_join.Tie as tie
 
-read-requires : tie.Need-read-requires
-read-requires c κs = search needs
+receiver-requires : tie.Need-receiver-requires
+receiver-requires c κs = search needs
 
 join-requires : tie.Need-join-requires
 join-requires c κs = search needs
@@ -22,8 +22,8 @@ same-length c = search needs
 returns : tie.Need-returns
 returns c =
     let p = c .before .before .before in
-    beside (c .heard .ensures _) ∙ ap (toPushedWith _) (p .join .ensures) ∙ rw (p .before .before .read .ensures)
+    beside (c .heard .ensures _) ∙ ap (toPushedWith _) (p .join .ensures) ∙ rw (p .before .before .receiver .ensures)
 
 pub xara-receiver-join-spec : {M : Type 1} → statement M
 xara-receiver-join-spec =
-    tie.close (tie.spec read-requires join-requires heard-requires same-length returns)
+    tie.close (tie.spec receiver-requires join-requires heard-requires same-length returns)

@@ -2,7 +2,6 @@
 -- Assumes nothing.
 use borrow.Author.Needs.{needs}
 use mathlib.Core.Path.{sym, ap, _∙_}
-use Rattle.laws.specs.Pick.{pick}
 use Rattle.receiver.specs.New.{madeOf}
 use Rattle.xara.specs.Told.{toFresh}
 use Rattle.xara.proofs.xara_receiver_new.Statement.{statement}
@@ -14,20 +13,24 @@ with-crc-mask-requires c κs = search needs
 enum-known-refusal : tie.Need-enum-known-refusal
 enum-known-refusal c = search needs
 
+no-receiver-requires : tie.Need-no-receiver-requires
+no-receiver-requires c κs = search needs
+
 enum-known-receiver : tie.Need-enum-known-receiver
 enum-known-receiver c = search needs
 
-shown-requires : tie.Need-shown-requires
-shown-requires c κs = search needs
+of-requires : tie.Need-of-requires
+of-requires c κs = search needs
 
 returns : tie.Need-returns
-unfolding pick
-returns c = ap (toFresh) (sym (ap madeOf (c .before .refusal .given .1)) ∙ c .before .before .before .with-crc-mask .ensures)
+returns c =
+    let r = c .before .before in
+    c .no-receiver .ensures ∙ ap toFresh (sym (ap madeOf (r .refusal .given .1)) ∙ r .before .before .with-crc-mask .ensures)
 
 returns-2 : tie.Need-returns-2
-unfolding pick
 returns-2 c =
-    rw (c .shown .ensures) (ap (toFresh) (sym (ap madeOf (c .before .before .receiver .given .1)) ∙ c .before .before .before .before .with-crc-mask .ensures))
+    let r = c .before .before in
+    rw (c .of .ensures) (ap toFresh (sym (ap madeOf (r .receiver .given .1)) ∙ r .before .before .with-crc-mask .ensures))
 
 pub xara-receiver-new-spec : {M : Type 1} → statement M
 xara-receiver-new-spec =
@@ -35,7 +38,8 @@ xara-receiver-new-spec =
     (tie.spec
     with-crc-mask-requires
     enum-known-refusal
+    no-receiver-requires
     enum-known-receiver
-    shown-requires
+    of-requires
     returns
     returns-2)

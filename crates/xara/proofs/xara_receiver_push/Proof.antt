@@ -7,8 +7,8 @@ use Rattle.xara.proofs.ToldLaws.{beside}
 use Rattle.xara.proofs.xara_receiver_push.Statement.{statement}
 use Rattle.xara.proofs.xara_receiver_push.Tie as tie
 
-read-requires : tie.Need-read-requires
-read-requires c κs = search needs
+receiver-requires : tie.Need-receiver-requires
+receiver-requires c κs = search needs
 
 push-requires : tie.Need-push-requires
 push-requires c κs = search needs
@@ -22,8 +22,8 @@ same-length c = search needs
 returns : tie.Need-returns
 returns c =
     let p = c .before .before .before in
-    beside (c .heard .ensures _) ∙ ap (toPushedWith _) (p .push .ensures) ∙ rw (p .before .before .read .ensures)
+    beside (c .heard .ensures _) ∙ ap (toPushedWith _) (p .push .ensures) ∙ rw (p .before .before .receiver .ensures)
 
 pub xara-receiver-push-spec : {M : Type 1} → statement M
 xara-receiver-push-spec =
-    tie.close (tie.spec read-requires push-requires heard-requires same-length returns)
+    tie.close (tie.spec receiver-requires push-requires heard-requires same-length returns)

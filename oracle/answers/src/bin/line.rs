@@ -1,12 +1,13 @@
 //! Asks the source: one request a line on the input, one answer a line on the output.
 
+use answers::kept::Kept;
 use answers::{Answer, FIELDS, Receiver, hex};
 use std::collections::HashMap;
 use std::io::{self, BufRead, Write};
 use std::str::FromStr;
 
-/// Every request with its words. Numbers are decimal, MASK, MARKER and HEX hexadecimal.
-const REQUESTS: [(&str, &str); 12] = [
+/// Every request with its words. Numbers are decimal, MASK, MARKER, HEX and KEPT hexadecimal.
+const REQUESTS: [(&str, &str); 15] = [
     ("encode", "CMD HEX"),
     ("decode", "HEX"),
     ("parse", "CMD HEX"),
@@ -19,22 +20,25 @@ const REQUESTS: [(&str, &str); 12] = [
     ("join", "NAME N HEX"),
     ("reset", "NAME"),
     ("state", "NAME"),
+    ("keep", "NAME KEPT"),
+    ("return", "NAME KEPT"),
+    ("drop", "KEPT"),
 ];
 
 type Receivers = HashMap<String, Receiver>;
 
 fn main() -> io::Result<()> {
-    let mut receivers = Receivers::new();
+    let (mut receivers, mut kept) = (Receivers::new(), Kept::none());
     let mut out = io::stdout().lock();
     for line in io::stdin().lock().split(b'\n') {
-        let answer = answer(&mut receivers, &line?).unwrap_or_else(|wrong| format!("error: {wrong}"));
+        let answer = answer(&mut receivers, &mut kept, &line?).unwrap_or_else(|wrong| format!("error: {wrong}"));
         writeln!(out, "{answer}")?;
         out.flush()?;
     }
     Ok(())
 }
 
-fn answer(receivers: &mut Receivers, line: &[u8]) -> Result<String, String> {
+fn answer(receivers: &mut Receivers, kept: &mut Kept<Receiver>, line: &[u8]) -> Result<String, String> {
     let line = std::str::from_utf8(line).map_err(|_| "the line is not text".to_string())?;
     let words: Vec<&str> = line.split(' ').collect();
     Ok(match words[..] {
@@ -53,6 +57,9 @@ fn answer(receivers: &mut Receivers, line: &[u8]) -> Result<String, String> {
         ["join", name, n, fragment] => received(receiver(receivers, name)?.join(&bytes(fragment)?, number(n)?)),
         ["reset", name] => reset(receiver(receivers, name)?),
         ["state", name] => state(receiver(receivers, name)?),
+        ["keep", name, under] => numbered(kept.keep(&bytes(under)?, receiver(receivers, name)?)),
+        ["return", name, under] => return_to(receiver(receivers, name)?, kept.returned(&bytes(under)?)),
+        ["drop", under] => numbered(kept.drop_name(&bytes(under)?)),
         _ => return Err(misused(words[0])),
     })
 }
@@ -73,7 +80,7 @@ fn parse(command: u8, data: &[u8]) -> String {
 }
 
 fn count(total: usize, field: usize) -> String {
-    or_refused(answers::count(total, field).map(|n| n.to_string()))
+    numbered(answers::count(total, field))
 }
 
 /// The fragments in order; an empty message has none.
@@ -105,6 +112,18 @@ fn state(receiver: &Receiver) -> String {
     let s = receiver.state();
     let (held, overflow) = (hex::to_hex(&s.held), u8::from(s.overflow));
     format!("held {held} fragments {} check {:02X} mask {:02X} overflow {overflow}", s.fragments, s.check, s.mask)
+}
+
+fn numbered(answer: Result<usize, u8>) -> String {
+    or_refused(answer.map(|n| n.to_string()))
+}
+
+/// The receiver goes on as the one that was kept, where there is one.
+fn return_to(receiver: &mut Receiver, returned: Result<Receiver, u8>) -> String {
+    or_refused(returned.map(|kept| {
+        *receiver = kept;
+        "ok".to_string()
+    }))
 }
 
 fn or_refused(answer: Result<String, u8>) -> String {

@@ -1,14 +1,16 @@
 //! Writes the file of recorded answers that the program `replay` reads and compares with its own.
 
 use answers::hex::to_hex;
+use answers::kept::Kept;
 use answers::random::Random;
 use answers::{Answer, FIELDS, MASKS, Receiver, bits, cases, frames};
+use std::collections::VecDeque;
 
 const SEED: u64 = 0x239A_C292_3920_2601;
 
 /// Every kind of line in the order of the file; each function writes one kind, with numbers of its own.
-const KINDS: [fn(&mut String); 15] =
-    [crc, push, bfi, text, take, digits, text7, val, count, fragment, frame, history, encode, summary, decode];
+const KINDS: [fn(&mut String); 16] =
+    [crc, push, bfi, text, take, digits, text7, val, count, fragment, frame, history, encode, summary, decode, channel];
 
 fn main() {
     let mut out = header();
@@ -24,7 +26,7 @@ fn header() -> String {
 # Answers of the unmodified Rust in oracle/, which the program replay compares with its own.
 # Each line is one call: its kind, what goes in, and last what came out of the Rust.
 # Numbers are decimal, bytes capital hexadecimal, - is no bytes, none is no answer (None in the Rust),
-# refused:N is a number of document 01's refusal table, whose refusals the Rust has only in part.
+# refused:N is a refusal's number in documents 01 and 02, whose refusals the Rust has only in part.
 # The inputs are edges written down by hand and, for the rest, drawn by a fixed generator, so that every
 # width, every length and every bit position within a byte appears; the comment before a kind says which.
 # Seed of the generator: {SEED:016X}
@@ -465,7 +467,12 @@ struct History {
 
 impl History {
     fn new(mask: u8) -> Self {
-        History { line: format!("history {mask:02X}"), receiver: Receiver::new(mask) }
+        History::of("history", mask)
+    }
+
+    /// A line of this kind.
+    fn of(kind: &str, mask: u8) -> Self {
+        History { line: format!("{kind} {mask:02X}"), receiver: Receiver::new(mask) }
     }
 
     /// A push, with the refusal of document 01 where the field is outside the domain.
@@ -510,8 +517,7 @@ fn whole_messages(out: &mut String, mask: u8, r: &mut Random) {
     for field in [3, 4 + r.below(10)] {
         let (mut pushes, mut joins) = (History::new(mask), History::new(mask));
         for count in [1, 2, 3, most, most + 1] {
-            let total = count * (field - 1) - r.below(field - 1);
-            for f in answers::split(&message(r, total), field, mask) {
+            for f in fragments_of(r, count, field, mask) {
                 pushes.push(field, &framed(r, field, &f));
                 joins.fragment(&f);
             }
@@ -648,6 +654,12 @@ fn framed(r: &mut Random, field: usize, f: &[u8]) -> Vec<u8> {
     answers::frame(field, f, r.below(4) as u8, r.below(2) == 0, r.below(8) as u8, r.byte())
 }
 
+/// A message of so many fragments.
+fn fragments_of(r: &mut Random, count: usize, field: usize, mask: u8) -> Vec<Vec<u8>> {
+    let total = count * (field - 1) - r.below(field - 1);
+    answers::split(&message(r, total), field, mask)
+}
+
 /// Bytes with a first one below 80.
 fn message(r: &mut Random, total: usize) -> Vec<u8> {
     let mut bytes = r.bytes(total);
@@ -773,6 +785,385 @@ fn rooms(answer: Option<Vec<u8>>) -> Vec<usize> {
 /// So many drawn data of at most 100 bytes.
 fn drawn_data(r: &mut Random, n: usize) -> Vec<(u8, Vec<u8>)> {
     std::iter::repeat_with(|| frames::data(r)).filter(|(_, data)| data.len() <= 100).take(n).collect()
+}
+
+fn channel(out: &mut String) {
+    *out += "\
+# channel MASK STEP STEP ..: a new receiver, nothing kept, and steps in order; a refused step changes nothing. A step is a call
+# of a history, n:MASK=ANSWER, a new receiver over the same store, k:NAME=ANSWER, which keeps the receiver and its store under
+# a name, r:NAME=ANSWER, which returns to a name, or x:NAME=ANSWER, which drops one. These four answer ok, the place of a name from
+# 0 on, or refused:N, where 20 and 21 are document 02's. What is kept are clones of the source's receiver.
+";
+    let mut r = Random::new(SEED, "channel");
+    worked_channel(out);
+    for mask in MASKS {
+        left_messages(out, mask, &mut r);
+        left_at_each_fragment(out, mask, &mut r);
+        gone_on(out, mask, &mut r);
+        replaced(out, mask, &mut r);
+        eight_names(out, mask, &mut r);
+        for _ in 0..20 {
+            drawn_steps(out, mask, &mut r);
+        }
+    }
+    refused_masks(out);
+    name_lengths(out, &mut r);
+    like_names(out, &mut r);
+    many_fragments(out, &mut r);
+    full_stores(out, &mut r);
+}
+
+/// What is still to be heard of a message: its fragments, to be sent with this field.
+#[derive(Clone, Default)]
+struct Rest {
+    field: usize,
+    fragments: VecDeque<Vec<u8>>,
+}
+
+/// A line of steps, the source's receiver that answers them and its clones, each with the rest of its message.
+struct Channel {
+    calls: History,
+    mask: u8,
+    rest: Rest,
+    kept: Kept<(Receiver, u8, Rest)>,
+}
+
+impl Channel {
+    fn new(mask: u8) -> Self {
+        Channel { calls: History::of("channel", mask), mask, rest: Rest::default(), kept: Kept::none() }
+    }
+
+    /// A message of so many fragments is to be heard.
+    fn sent(&mut self, r: &mut Random, count: usize, field: usize) {
+        self.rest = Rest { field, fragments: fragments_of(r, count, field, self.mask).into() };
+    }
+
+    /// The next fragments, so many at most, each as a push or as a join.
+    fn hear(&mut self, r: &mut Random, count: usize) {
+        for _ in 0..count {
+            let Some(f) = self.rest.fragments.pop_front() else { return };
+            match r.below(2) {
+                0 => self.calls.push(self.rest.field, &framed(r, self.rest.field, &f)),
+                _ => self.calls.fragment(&f),
+            }
+        }
+    }
+
+    /// All that is still to be heard.
+    fn complete(&mut self, r: &mut Random) {
+        self.hear(r, usize::MAX);
+    }
+
+    /// A new receiver, where its mask is not refused.
+    fn renew(&mut self, mask: u8) {
+        let good = MASKS.contains(&mask);
+        if good {
+            self.calls.receiver = Receiver::new(mask);
+            (self.mask, self.rest) = (mask, Rest::default());
+        }
+        self.step("n", &[mask], if good { Ok("ok") } else { Err(9) });
+    }
+
+    fn keep(&mut self, name: &[u8]) {
+        let place = self.kept.keep(name, &(self.calls.receiver.clone(), self.mask, self.rest.clone()));
+        self.step("k", name, place);
+    }
+
+    fn return_to(&mut self, name: &[u8]) {
+        let returned = self.kept.returned(name);
+        let answer = returned.map(|kept| (self.calls.receiver, self.mask, self.rest) = kept);
+        self.step("r", name, answer.map(|()| "ok"));
+    }
+
+    fn drop_name(&mut self, name: &[u8]) {
+        let place = self.kept.drop_name(name);
+        self.step("x", name, place);
+    }
+
+    fn step<T: ToString>(&mut self, kind: &str, bytes: &[u8], answer: Result<T, u8>) {
+        self.calls.line += &format!(" {kind}:{}={}", to_hex(bytes), or_refused(answer));
+    }
+
+    /// Other stations are heard under masks that are not this one: messages of longer fragments, to the end or not.
+    fn others(&mut self, r: &mut Random) {
+        let masks: Vec<u8> = MASKS.into_iter().filter(|&mask| mask != self.mask).collect();
+        for _ in 0..1 + r.below(2) {
+            self.renew(r.one_of(&masks));
+            let field = 12 + r.below(16);
+            self.sent(r, 3, field);
+            let heard = 1 + r.below(3);
+            self.hear(r, heard);
+        }
+    }
+
+    /// A new receiver under a drawn mask, and a message without its end.
+    fn half(&mut self, r: &mut Random) {
+        self.renew(r.one_of(&MASKS));
+        let (count, field) = (2 + r.below(2), 3 + r.below(12));
+        self.sent(r, count, field);
+        self.hear(r, count - 1);
+    }
+
+    /// The next fragment; where there is none, the first of another message.
+    fn go_on(&mut self, r: &mut Random) {
+        if self.rest.fragments.is_empty() {
+            let (count, field) = (1 + r.below(answers::most(self.mask).min(5)), 3 + r.below(12));
+            self.sent(r, count, field);
+        }
+        self.hear(r, 1);
+    }
+
+    /// All of a message in one fragment with More, so that a last fragment with no byte of its own completes it.
+    fn full(&mut self, message: &[u8]) {
+        let check = (answers::crc(message) >> 8) as u8;
+        self.calls.fragment(&[&[message[0] | 0x80, check], &message[1..]].concat());
+    }
+
+    fn end(self, out: &mut String) {
+        self.calls.end(out);
+    }
+}
+
+/// A message is left half heard and completed, another is heard in between, and the names run out.
+fn worked_channel(out: &mut String) {
+    let [first, last] = [0, 1].map(|k| answers::frame(5, &answers::split(&WORKED, 5, 0xF0)[k], 0, false, 0, 0x01));
+    let mut c = Channel::new(0xF0);
+    c.calls.push(5, &first);
+    c.keep(b"net");
+    c.renew(0xF8);
+    c.calls.push(5, &last);
+    c.calls.push(5, &first);
+    c.keep(b"fm");
+    c.return_to(b"net");
+    c.calls.push(5, &last);
+    c.drop_name(b"net");
+    c.return_to(b"net");
+    for name in [b"x", b"2", b"3", b"4", b"5", b"6", b"7", b"9"] {
+        c.keep(name);
+    }
+    c.keep(b"fm");
+    c.keep(b"");
+    c.keep(b"ninebytes");
+    c.end(out);
+}
+
+/// Messages of two to the most fragments, left after each fragment; of many fragments after the first, a drawn one and the
+/// last but one.
+fn left_messages(out: &mut String, mask: u8, r: &mut Random) {
+    let most = answers::most(mask);
+    for count in (2..5).filter(|&count| count < most).chain([most]) {
+        let places = if count <= 5 { (1..count).collect() } else { vec![1, 2 + r.below(count - 3), count - 1] };
+        for heard in places {
+            left_message(out, mask, count, heard, r);
+        }
+    }
+}
+
+/// A message of which so many fragments are heard before it is left.
+fn left_message(out: &mut String, mask: u8, count: usize, heard: usize, r: &mut Random) {
+    let mut c = Channel::new(mask);
+    let field = 3 + r.below(6);
+    c.sent(r, count, field);
+    c.hear(r, heard);
+    c.keep(b"left");
+    c.others(r);
+    c.return_to(b"left");
+    c.complete(r);
+    c.end(out);
+}
+
+/// One message, left after each fragment under one name and others heard in between.
+fn left_at_each_fragment(out: &mut String, mask: u8, r: &mut Random) {
+    let mut c = Channel::new(mask);
+    c.sent(r, answers::most(mask).min(9), 5);
+    while !c.rest.fragments.is_empty() {
+        c.hear(r, 1);
+        c.keep(b"left");
+        c.others(r);
+        c.return_to(b"left");
+    }
+    c.end(out);
+}
+
+/// A message goes on after it is kept, and each return makes it as it was: it is completed again, ends as another one and is
+/// completed once more.
+fn gone_on(out: &mut String, mask: u8, r: &mut Random) {
+    let mut c = Channel::new(mask);
+    c.sent(r, 3, 7);
+    c.hear(r, 1);
+    c.keep(b"a");
+    c.complete(r);
+    c.return_to(b"a");
+    c.hear(r, 1);
+    c.return_to(b"a");
+    c.complete(r);
+    c.return_to(b"a");
+    c.sent(r, 2, 9);
+    c.complete(r);
+    c.calls.reset();
+    c.return_to(b"a");
+    c.complete(r);
+    c.end(out);
+}
+
+/// One name is kept after each fragment, another after the first, and both are returned to.
+fn replaced(out: &mut String, mask: u8, r: &mut Random) {
+    let mut c = Channel::new(mask);
+    c.sent(r, answers::most(mask).min(5), 4);
+    c.hear(r, 1);
+    c.keep(b"a");
+    c.keep(b"first");
+    while c.rest.fragments.len() > 1 {
+        c.hear(r, 1);
+        c.keep(b"a");
+    }
+    for name in [&b"a"[..], b"first", b"a"] {
+        c.return_to(name);
+        c.complete(r);
+    }
+    c.end(out);
+}
+
+/// Eight messages half heard, each under a name of its own, then a ninth name and a known one. Two names are dropped, a known
+/// name after their places is kept, and new names come to their places. Then each message is completed.
+fn eight_names(out: &mut String, mask: u8, r: &mut Random) {
+    let mut c = Channel::new(mask);
+    let mut names: Vec<&[u8]> = (1..=8).map(|len| &b"ABCDEFGH"[..len]).collect();
+    for name in names.iter().chain([&&b"I"[..], &names[r.below(8)]]) {
+        c.half(r);
+        c.keep(name);
+    }
+    for place in [4 + r.below(3), 1 + r.below(3)] {
+        c.drop_name(names[place]);
+        c.return_to(names[place]);
+    }
+    for name in [names[7], b"I", b"J", b"K"] {
+        c.half(r);
+        c.keep(name);
+    }
+    names.extend([&b"I"[..], b"J"]);
+    for k in 0..10 {
+        c.return_to(names[k * 7 % 10]);
+        c.complete(r);
+    }
+    c.end(out);
+}
+
+/// Any of the steps in any order. Most messages go on as they were sent.
+fn drawn_steps(out: &mut String, mask: u8, r: &mut Random) {
+    let mut c = Channel::new(mask);
+    for _ in 0..20 + r.below(41) {
+        match r.below(20) {
+            0 => c.renew(r.one_of(&MASKS)),
+            1 => c.renew(r.byte()),
+            2..=6 => c.keep(drawn_name(r)),
+            7..=9 => c.return_to(drawn_name(r)),
+            10 => c.drop_name(drawn_name(r)),
+            11 => c.calls.reset(),
+            12 => c.calls.push(5, &r.bytes(8)),
+            _ => c.go_on(r),
+        }
+    }
+    c.end(out);
+}
+
+/// One of twelve names, or seldom one that is too short or too long.
+fn drawn_name(r: &mut Random) -> &'static [u8] {
+    const LETTERS: &[u8] = b"abcdefghijkl";
+    let k = r.below(12);
+    match r.below(20) {
+        0 => &[],
+        1 => &LETTERS[..9],
+        _ => &LETTERS[k..12.min(k + 1 + k % 8)],
+    }
+}
+
+/// A message goes on after every mask that is none was refused.
+fn refused_masks(out: &mut String) {
+    let mut c = Channel::new(0xF0);
+    let [first, last] = [0, 1].map(|k| answers::split(&WORKED, 5, 0xF0)[k].clone());
+    c.calls.fragment(&first);
+    for mask in bad_masks() {
+        c.renew(mask);
+    }
+    c.calls.fragment(&last);
+    c.end(out);
+}
+
+/// Names of 1 to 8 bytes and of other lengths, some of which are 0 to 8 in their last eight bits.
+fn name_lengths(out: &mut String, r: &mut Random) {
+    let mut c = Channel::new(0xF0);
+    c.sent(r, 4, 5);
+    c.hear(r, 1);
+    for len in (0..=10).chain([16, 17, 255, 256, 257, 264]) {
+        let name = vec![0x41; len];
+        c.keep(&name);
+        c.hear(r, usize::from(len == 3));
+        c.return_to(&name);
+        c.drop_name(&name);
+        c.drop_name(&name);
+    }
+    c.complete(r);
+    c.end(out);
+}
+
+/// Names that differ in a zero at the end, in the last byte or in their length have places of their own.
+fn like_names(out: &mut String, r: &mut Random) {
+    let names = ["A", "A\0", "A\0\0", "\0", "\0\0", "ABCDEFGH", "ABCDEFGI", "ABCDEFG"].map(str::as_bytes);
+    let mut c = Channel::new(0xE0);
+    for name in names {
+        c.half(r);
+        c.keep(name);
+    }
+    for name in names {
+        c.return_to(name);
+        c.complete(r);
+        c.drop_name(name);
+        c.return_to(name);
+    }
+    c.end(out);
+}
+
+/// A message of 256 fragments is kept before the last, which is dropped, and once more after another one with More was
+/// dropped in its place. After each return the last is dropped too, and the next message is heard.
+fn many_fragments(out: &mut String, r: &mut Random) {
+    let mut c = Channel::new(0xF0);
+    let long = message(r, 2 * 256);
+    let mut fragments = answers::split(&long, 3, 0xF0);
+    fragments[0][1] = (answers::crc(&long) >> 8) as u8;
+    let last = fragments.pop().expect("a message that is not empty");
+    for f in fragments {
+        c.calls.fragment(&f);
+    }
+    c.keep(b"255");
+    c.calls.fragment(&[0xC1, 0x42]);
+    c.keep(b"over");
+    for name in [&b"255"[..], b"over"] {
+        c.others(r);
+        c.return_to(name);
+        c.calls.fragment(&last);
+        c.calls.fragment(&[0x41, 0x43]);
+    }
+    c.end(out);
+}
+
+/// Two messages fill their stores up to the last byte, one in seven places and one in the eighth.
+fn full_stores(out: &mut String, r: &mut Random) {
+    let mut c = Channel::new(0xF0);
+    let names = [b"1", b"2", b"3", b"4", b"5", b"6", b"7", b"8"];
+    let (one, other) = (message(r, 5_000), message(r, 5_000));
+    c.full(&one);
+    for name in &names[..7] {
+        c.keep(*name);
+    }
+    c.renew(0xFE);
+    c.full(&other);
+    c.keep(names[7]);
+    for (name, message) in [(names[0], &one), (names[7], &other), (names[6], &one)] {
+        c.return_to(name);
+        c.calls.fragment(&message[..1]);
+    }
+    c.end(out);
 }
 
 fn or_refused<T: ToString>(answer: Result<T, u8>) -> String {

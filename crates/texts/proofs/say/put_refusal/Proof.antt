@@ -22,7 +22,7 @@ piece-requires c κs = search needs
 put-line-requires : tie.Need-put-line-requires
 put-line-requires c κs =
     let start = c .before .before .before .before .before in
-    let few : length (now (c .piece .result)) ≤ 440 = rw (c .piece .ensures) (piece-length 124 (start .args .n) _) in
+    let few : length (now (c .piece .result)) ≤ 502 = rw (c .piece .ensures) (piece-length 124 (start .args .n) _) in
     (start .pre, omega arith, omega (arith, few))
 
 same-length : tie.Need-same-length

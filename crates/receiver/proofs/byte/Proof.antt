@@ -1,9 +1,9 @@
--- `xara::byte` meets its contract.
+-- `receiver::byte` meets its contract.
 -- Assumes nothing.
 use borrow.Author.Needs.{needs}
 use Rattle.laws.specs.Bits.{num}
-use Rattle.xara.proofs.byte.Statement.{statement}
-use Rattle.xara.proofs.byte.Tie as tie
+use Rattle.receiver.proofs.byte.Statement.{statement}
+use Rattle.receiver.proofs.byte.Tie as tie
 
 returns : tie.Need-returns
 unfolding num

@@ -1,0 +1,9 @@
+pub mod Completed
+pub mod Counts
+pub mod Edges
+pub mod Entries
+pub mod Instances
+pub mod Return
+pub mod Shelf
+pub mod Stays
+pub mod Steps

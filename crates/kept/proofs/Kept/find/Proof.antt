@@ -1,0 +1,76 @@
+-- `kept::Kept::find` meets its contract. The slots before i are not under the name.
+-- Assumes nothing.
+use borrow.Author.Needs.{needs}
+use native.Mathlib.Omega.{arith}
+use mathlib.Core.Path.{_≡_, refl, sym, _∙_}
+use Prim.Native.Nat.{_≤_, _-_}
+use lib.ListN.{length, drop, length-map}
+use denote.Ref.{now}
+use Rattle.kept.specs.Keep.{isUnder, firstFrom}
+use Rattle.kept.proofs.Places.{first-here, first-on, first-end}
+use Rattle.kept.proofs.NoSlot.{noSlot}
+use Rattle.kept.proofs.Kept.find.Statement.{statement}
+use Rattle.kept.proofs.Kept.find.Tie as tie
+
+abbrev Inv-loop : tie.InvT-loop
+Inv-loop name self i₀ i = (i ≤ 8) × (firstFrom (isUnder name) 0 (self .slots) ≡ firstFrom (isUnder name) i (drop i (self .slots)))
+
+abbrev μ-loop : tie.MeasureT-loop
+μ-loop name self i₀ i = 8 - i
+
+loop-holds : tie.Need-loop-holds Inv-loop μ-loop
+loop-holds c = (omega arith, refl)
+
+mul-slot : tie.Need-mul-slot Inv-loop μ-loop
+mul-slot c = search needs
+
+element-copy-out-slot : tie.Need-element-copy-out-slot Inv-loop μ-loop
+element-copy-out-slot c = search needs
+
+is-under-requires : tie.Need-is-under-requires Inv-loop μ-loop
+is-under-requires c κs = search needs
+
+returns : tie.Need-returns Inv-loop μ-loop
+returns c =
+    let l = c .before .before .before .before in
+    let s = l .before .before in
+    let e : length (s .args .t1 .slots) ≡ 8 = sym (length-map (s .args .t1 .slots) _) ∙ s .good .0 .1 .1 .0 .1 .0 .1 in
+    sym (l .loop .inv .1 ∙ first-here (isUnder (now (s .args .name))) (s .args .t1 .slots) (l .loop .i) noSlot (omega arith) (sym (c .before .is-under .ensures) ∙ c .if1 .taken))
+
+add-i : tie.Need-add-i Inv-loop μ-loop
+add-i c = search needs
+
+loop-less : tie.Need-loop-less Inv-loop μ-loop
+loop-less c = search needs
+
+loop-again : tie.Need-loop-again Inv-loop μ-loop
+loop-again c =
+    let l = c .before .before .before .before in
+    let s = l .before .before in
+    let e : length (s .args .t1 .slots) ≡ 8 = sym (length-map (s .args .t1 .slots) _) ∙ s .good .0 .1 .1 .0 .1 .0 .1 in (
+      omega arith,
+      l .loop .inv .1 ∙ first-on (isUnder (now (s .args .name))) (s .args .t1 .slots) (l .loop .i) noSlot (omega arith) (sym (c .before .is-under .ensures) ∙ c .if1 .left),
+    )
+
+returns-2 : tie.Need-returns-2 Inv-loop μ-loop
+returns-2 c =
+    let l = c .before in
+    let s = l .before .before in
+    let e : length (s .args .t1 .slots) ≡ 8 = sym (length-map (s .args .t1 .slots) _) ∙ s .good .0 .1 .1 .0 .1 .0 .1 in
+    sym (l .loop .inv .1 ∙ first-end (isUnder (now (s .args .name))) (s .args .t1 .slots) (l .loop .i) (omega arith))
+
+pub find-spec : {M : Type 1} → statement M
+find-spec =
+    tie.close
+    (tie.spec
+    Inv-loop
+    μ-loop
+    loop-holds
+    mul-slot
+    element-copy-out-slot
+    is-under-requires
+    returns
+    add-i
+    loop-less
+    loop-again
+    returns-2)
