@@ -6,7 +6,7 @@ use crate::xara::{Pushed, Tallies};
 use std::collections::BTreeMap;
 
 /// How often each answer came back from a receiver since it was new, by kind and cause.
-#[derive(Default)]
+#[derive(Clone, Default)]
 pub struct Answers(BTreeMap<(u8, u8), u64>);
 
 /// A receiver's tallies, and the sum of all but offered.

@@ -1,6 +1,8 @@
 //! The structs that are to be expected of a value or a refusal: 0 in every field that has no meaning then.
 
-use crate::xara::{Answer, Decoded, Encoded, Fresh, Heard, Pushed, Receiver, Summary, Tallies};
+use crate::xara::{
+    Answer, Decoded, Encoded, Fresh, Heard, Keeping, Kept, KeptSlot, Pushed, Receiver, Summary, Tallies,
+};
 
 impl Answer {
     pub fn of(expected: Result<usize, u8>) -> Self {
@@ -33,6 +35,23 @@ impl Pushed {
             Heard::Unknown(kind) => (kind, 0, 0, 0),
         };
         Pushed { kind, refusal, cause, length, receiver }
+    }
+}
+
+impl KeptSlot {
+    /// A state under a name, with zeros after it.
+    pub fn of(name: &[u8], receiver: Receiver) -> Self {
+        let mut slot = KeptSlot { len: name.len(), receiver, ..KeptSlot::default() };
+        slot.name[..name.len()].copy_from_slice(name);
+        slot
+    }
+}
+
+impl Keeping {
+    /// Of the name's place, and of the kept states as the call leaves them.
+    pub fn of(expected: Result<usize, u8>, kept: Kept) -> Self {
+        let (ok, refusal) = flags(&expected);
+        Keeping { ok, refusal, place: expected.unwrap_or_default(), kept }
     }
 }
 

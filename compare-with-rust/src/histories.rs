@@ -1,9 +1,11 @@
 //! Histories of pushes, joins and resets.
 
+use crate::lent::Lent;
 use crate::masks;
 use crate::receiver::Pair;
+use crate::rules::Call;
 use crate::tally::{Kind, Row, Tally};
-use crate::xara::{self, Fresh, Tallies};
+use crate::xara::{self, Fresh, Heard, Tallies};
 use answers::random::Random;
 use answers::{MASKS, MAX_MESSAGE, most};
 
@@ -15,35 +17,45 @@ pub fn history(r: &mut Random, tally: &mut Tally) {
         0 => many_fragments(&mut pair, mask, r, tally),
         1 => many_bytes(&mut pair, mask, r, tally),
         2..6 => any_bytes(&mut pair, r, tally),
-        _ => traffic(&mut pair, mask, r, tally),
+        _ => traffic(&mut pair, some_calls(r), r, tally),
     }
     pair.state(tally);
     pair.conserved(tally);
 }
 
-/// A new receiver with any store; none where its mask is refused, or where it is not as expected. Of its tallies: "a fresh receiver
-/// starts them at 0" (02, E12).
+/// A new receiver with any store; none where its mask is refused, or where it is not as expected.
 pub fn new(kind: Kind, mask: u8, r: &mut Random, tally: &mut Tally) -> Option<Pair> {
+    let fresh = fresh(kind, mask, tally)?;
+    Some(Pair::new(mask, fresh, Lent::new(r, MAX_MESSAGE)))
+}
+
+/// A new receiver of ours. Of its tallies: "a fresh receiver starts them at 0" (02, E12).
+pub fn fresh(kind: Kind, mask: u8, tally: &mut Tally) -> Option<xara::Receiver> {
     let ours = xara::Receiver::fresh(mask);
     let fresh = xara::Receiver::idle(mask, Tallies::of([0; 8]));
     let expected = Fresh::of(if MASKS.contains(&mask) { Ok(fresh) } else { Err(9) });
     let same = tally.compare(kind, Row::of(expected), Row::of(ours), || format!("new a {mask:02X}"));
-    let fresh = ours.told().ok().filter(|_| same)?;
-    Some(Pair::new(mask, fresh, r.bytes(MAX_MESSAGE)))
+    ours.told().ok().filter(|_| same)
 }
 
-/// Two senders whose frames come in turn, some of them under another mask than the receiver's, with faults among them.
-fn traffic(pair: &mut Pair, mask: u8, r: &mut Random, tally: &mut Tally) {
+/// How many calls a history has of two senders.
+fn some_calls(r: &mut Random) -> usize {
+    30 + r.below(90)
+}
+
+/// So many calls of two senders whose frames come in turn, some of them under another mask than the receiver's, with faults among them.
+pub fn traffic(pair: &mut Pair, calls: usize, r: &mut Random, tally: &mut Tally) {
+    let mask = pair.mask();
     let mut senders = [Sender::new(mask, r), Sender::new(mask, r)];
     let alone = r.below(2) == 0;
     let faults = [0, 4, 16][r.below(3)];
-    for _ in 0..30 + r.below(90) {
+    for _ in 0..calls {
         let sender = &mut senders[if alone || r.below(4) > 0 { 0 } else { 1 }];
         let fragment = sender.next(r);
         if r.below(100) < faults {
             fault(pair, fragment, sender.field, r, tally);
         } else {
-            heard(pair, fragment, sender.field, r, tally);
+            heard(pair, fragment, sender.field, r.byte(), r, tally);
         }
         between_calls(pair, r, tally);
     }
@@ -55,7 +67,7 @@ fn many_fragments(pair: &mut Pair, mask: u8, r: &mut Random, tally: &mut Tally) 
     let count = if r.below(2) == 0 { 250 + r.below(11) } else { most(mask) - 1 + r.below(4) };
     let message = message(count * (field - 1), r);
     run(pair, answers::split(&message, field, mask), field, r, tally);
-    traffic(pair, mask, r, tally);
+    traffic(pair, some_calls(r), r, tally);
 }
 
 /// A message around 5,000 bytes, or far beyond, then a little traffic.
@@ -64,7 +76,7 @@ fn many_bytes(pair: &mut Pair, mask: u8, r: &mut Random, tally: &mut Tally) {
     let length = if r.below(4) > 0 { 4_997 + r.below(7) } else { 4_900 + r.below(800) };
     let message = message(length, r);
     run(pair, answers::split(&message, field, mask), field, r, tally);
-    traffic(pair, mask, r, tally);
+    traffic(pair, some_calls(r), r, tally);
 }
 
 /// All fragments in order, in one history of three with a rare fault.
@@ -74,7 +86,7 @@ fn run(pair: &mut Pair, fragments: Vec<Vec<u8>>, field: usize, r: &mut Random, t
         if faults && r.below(100) == 0 {
             fault(pair, fragment, field, r, tally);
         } else {
-            heard(pair, fragment, field, r, tally);
+            heard(pair, fragment, field, r.byte(), r, tally);
         }
         between_calls(pair, r, tally);
     }
@@ -103,18 +115,25 @@ fn any_bytes(pair: &mut Pair, r: &mut Random, tally: &mut Tally) {
     }
 }
 
-/// A sender's fragment, mostly in its frame.
-fn heard(pair: &mut Pair, fragment: Vec<u8>, field: usize, r: &mut Random, tally: &mut Tally) {
+/// A sender's fragment, mostly in its frame with this marker: the answer, where it is as expected.
+pub fn heard(
+    pair: &mut Pair,
+    fragment: Vec<u8>,
+    field: usize,
+    marker: u8,
+    r: &mut Random,
+    tally: &mut Tally,
+) -> Option<Heard> {
     match r.below(4) {
-        0 => pair.join(fragment.len(), &fragment, tally),
-        _ => pair.push(field, &framed(&fragment, field, r), tally),
+        0 => pair.call(Kind::Join, Call::Join(&fragment, fragment.len()), tally),
+        _ => pair.call(Kind::Push, Call::Push(&framed(&fragment, field, marker, r), field), tally),
     }
 }
 
 /// A fragment that comes damaged, cut, not at all or twice, in a frame of another length, with another field, or with
 /// something else in its place.
-fn fault(pair: &mut Pair, mut fragment: Vec<u8>, field: usize, r: &mut Random, tally: &mut Tally) {
-    let frame = framed(&fragment, field, r);
+pub fn fault(pair: &mut Pair, mut fragment: Vec<u8>, field: usize, r: &mut Random, tally: &mut Tally) {
+    let frame = framed(&fragment, field, r.byte(), r);
     match r.below(14) {
         0 => {}
         1 => {
@@ -133,7 +152,7 @@ fn fault(pair: &mut Pair, mut fragment: Vec<u8>, field: usize, r: &mut Random, t
         11 => pair.join(1, &[0x80 | r.byte(), r.byte()], tally),
         12 => {
             fragment[0] ^= 0x80;
-            pair.push(field, &framed(&fragment, field, r), tally);
+            pair.push(field, &framed(&fragment, field, r.byte(), r), tally);
         }
         _ => pair.reset(tally),
     }
@@ -159,15 +178,15 @@ fn damaged(mut frame: Vec<u8>, field: usize, r: &mut Random) -> Vec<u8> {
 }
 
 /// The source's frame of a fragment; a marker of 14, which we refuse, is among those heard.
-fn framed(fragment: &[u8], field: usize, r: &mut Random) -> Vec<u8> {
+fn framed(fragment: &[u8], field: usize, marker: u8, r: &mut Random) -> Vec<u8> {
     let (reply, hint) = (r.below(4) as u8, r.below(8) as u8);
-    answers::frame(field, fragment, reply, r.below(2) == 0, hint, r.byte())
+    answers::frame(field, fragment, reply, r.below(2) == 0, hint, marker)
 }
 
 /// Our state against the source's own: always where few bytes are held, and now and then where many are, since reading
 /// it is slow then. With the state that the rules have ours is compared after every call. Then an overflow is shown to the
 /// next call as any byte.
-fn between_calls(pair: &mut Pair, r: &mut Random, tally: &mut Tally) {
+pub fn between_calls(pair: &mut Pair, r: &mut Random, tally: &mut Tally) {
     if pair.held() < 200 || r.below(100) == 0 {
         pair.state(tally);
     }
@@ -203,7 +222,7 @@ impl Sender {
 }
 
 /// Bytes with a first one below 80; among some, many are 14.
-fn message(length: usize, r: &mut Random) -> Vec<u8> {
+pub fn message(length: usize, r: &mut Random) -> Vec<u8> {
     let many = r.below(4) == 0;
     let mut bytes = r.bytes(length);
     for byte in &mut bytes {

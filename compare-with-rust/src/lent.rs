@@ -30,6 +30,11 @@ impl Lent {
         format!("room for {} from place {MARGIN} on", self.room())
     }
 
+    /// The part, to look at.
+    pub fn seen(&self) -> &[u8] {
+        &self.bytes[self.part.clone()]
+    }
+
     pub fn part(&mut self) -> &mut [u8] {
         &mut self.bytes[self.part.clone()]
     }

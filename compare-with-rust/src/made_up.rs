@@ -12,7 +12,7 @@ use answers::random::Random;
 use answers::{MASKS, MAX_MESSAGE};
 
 /// Some state.
-fn state(r: &mut Random) -> Receiver {
+pub fn state(r: &mut Random) -> Receiver {
     let held = [0, 1, 4_999, 5_000, r.below(5_001), r.below(5_001), 5_001, usize::MAX][r.below(8)];
     let nfrag = [0, 1, 254, 255, r.below(256), r.below(256), 256, usize::MAX][r.below(8)];
     let crc_mask = masks::some(r, 8);

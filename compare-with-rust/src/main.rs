@@ -1,15 +1,20 @@
 //! Runs the exported functions and the unmodified Rust on the same inputs for some seconds, and says where they differ.
 
 mod calls;
+mod channels;
 mod codings;
 mod conserved;
 mod expected;
 mod histories;
 mod journeys;
+mod kept;
+mod kept_made_up;
 mod lent;
 mod made_up;
 mod masks;
 mod mended;
+mod met;
+mod names;
 mod readings;
 mod receiver;
 mod rules;
@@ -86,6 +91,7 @@ fn written_down(r: &mut Random, tally: &mut Tally) {
     made_up::all_masks(r, tally);
     made_up::all_stores(r, tally);
     made_up::all_tallies(r, tally);
+    kept_made_up::written_down(r, tally);
     codings::longest(r, tally);
     codings::written_down(r, tally);
     codings::wide_calls(r, tally);
@@ -101,9 +107,13 @@ fn round(field: usize, r: &mut Random, tally: &mut Tally) {
     for _ in 0..10 {
         calls::crc(r, tally);
     }
+    for _ in 0..60 {
+        channels::operations(r, tally);
+    }
     for _ in 0..100 {
         calls::some_count(r, tally);
         made_up::calls(r, tally);
+        kept_made_up::drawn(r, tally);
         histories::history(r, tally);
         journeys::journey(r, tally);
         codings::plain(r, tally);

@@ -1,7 +1,7 @@
 //! One receiver of ours with its store, and the source's receiver beside it. Each call goes to both.
 
 use crate::conserved::{Answers, Balance};
-use crate::lent::Input;
+use crate::lent::{Input, Lent};
 use crate::rules::{self, Call};
 use crate::tally::{Kind, Row, Tally};
 use crate::xara::{self, Heard, Pushed};
@@ -9,39 +9,91 @@ use answers::Answer;
 use answers::hex::to_hex;
 
 pub struct Pair {
+    ours: xara::Receiver,
+    store: Lent,
+    history: History,
+}
+
+/// All that a receiver was called with since it was new, and what that leads to.
+#[derive(Clone)]
+pub struct History {
     mask: u8,
     source: answers::Receiver,
-    ours: xara::Receiver,
-    store: Vec<u8>,
     /// The state as it must be, by document 01's rules, with document 02's tallies; `state` compares ours with the source's own.
     expected: xara::Receiver,
     /// The store as it must be: every byte that no call may have written is as it was at the start.
-    expected_store: Vec<u8>,
-    /// All calls since the receivers were new, as requests to the oracle's line program.
+    store: Lent,
+    /// All calls, as requests to the oracle's line program.
     calls: Vec<Request>,
     /// What ours answered to them.
     answers: Answers,
 }
 
+#[derive(Clone)]
 enum Request {
     Push(usize, Vec<u8>),
     Join(usize, Vec<u8>),
     Reset,
 }
 
+impl History {
+    /// No call yet, with a store that holds what it holds.
+    fn new(mask: u8, expected: xara::Receiver, store: Lent) -> Self {
+        let (calls, answers) = (Vec::new(), Answers::default());
+        History { mask, source: answers::Receiver::new(mask), expected, store, calls, answers }
+    }
+
+    pub fn state(&self) -> xara::Receiver {
+        self.expected
+    }
+
+    /// An overflow as this byte, which is not 0.
+    pub fn show_flag(&mut self, byte: u8) {
+        if self.expected.overflow != 0 {
+            self.expected.overflow = byte;
+        }
+    }
+
+    /// The rules' answer and state. The source must agree with the answer, but for the cause, of which it says nothing. Into the
+    /// expected store go the bytes that the call may write. What the rules refuse does not go to the source.
+    fn expect(&mut self, call: Call) -> Pushed {
+        let (ruled, state) = rules::answer(self.expected, self.store.part(), call);
+        self.expected = state;
+        let answer = match (ruled, call) {
+            (Heard::Refused(_), _) => return Pushed::of(ruled, state),
+            (_, Call::Push(frame, field)) => self.source.push(frame, field),
+            (_, Call::Join(f, n)) => self.source.join(f, n),
+        };
+        let agreed = match answer {
+            Answer::Dropped => matches!(ruled, Heard::Dropped(_)),
+            Answer::More => ruled == Heard::More,
+            Answer::Done(message) => {
+                self.store.part()[..message.len()].copy_from_slice(&message);
+                ruled == Heard::Done(message.len())
+            }
+        };
+        assert!(agreed, "the source, and document 01's rules, which say {ruled:?}, on {call:02X?}");
+        Pushed::of(ruled, state)
+    }
+
+    /// All calls as requests to the oracle's line program.
+    pub fn told(&self) -> String {
+        let mut text = format!("new a {:02X}", self.mask);
+        for call in &self.calls {
+            text += &match call {
+                Request::Push(field, frame) => format!("\npush a {field} {}", to_hex(frame)),
+                Request::Join(n, f) => format!("\njoin a {n} {}", to_hex(f)),
+                Request::Reset => "\nreset a".to_string(),
+            };
+        }
+        text
+    }
+}
+
 impl Pair {
     /// Both receivers new, with a store that holds what it holds.
-    pub fn new(mask: u8, ours: xara::Receiver, store: Vec<u8>) -> Self {
-        Pair {
-            mask,
-            source: answers::Receiver::new(mask),
-            ours,
-            expected: ours,
-            expected_store: store.clone(),
-            store,
-            calls: Vec::new(),
-            answers: Answers::default(),
-        }
+    pub fn new(mask: u8, ours: xara::Receiver, store: Lent) -> Self {
+        Pair { ours, history: History::new(mask, ours, store.clone()), store }
     }
 
     pub fn held(&self) -> usize {
@@ -50,12 +102,12 @@ impl Pair {
 
     /// The first bytes of our store.
     pub fn message(&self, length: usize) -> &[u8] {
-        &self.store[..length]
+        &self.store.seen()[..length]
     }
 
     /// Any byte but 0 is an overflow: an overflow is shown to the next call as this one.
     pub fn show_overflow(&mut self, byte: u8) {
-        for receiver in [&mut self.ours, &mut self.expected] {
+        for receiver in [&mut self.ours, &mut self.history.expected] {
             if receiver.overflow != 0 && byte != 0 {
                 receiver.overflow = byte;
             }
@@ -73,55 +125,34 @@ impl Pair {
     /// A push or a join: what it is expected to answer, where all is so.
     pub fn call(&mut self, kind: Kind, call: Call, tally: &mut Tally) -> Option<Heard> {
         let mut input = Input::new(call.bytes());
-        let ours = call.on(self.ours, &mut self.store, &mut input);
-        let expected = self.expect(call);
-        self.answers.note(ours);
+        let ours = call.on(self.ours, self.store.part(), &mut input);
+        let expected = self.history.expect(call);
+        self.history.answers.note(ours);
         self.ours = ours.receiver;
-        self.calls.push(match call {
+        self.history.calls.push(match call {
             Call::Push(frame, field) => Request::Push(field, frame.to_vec()),
             Call::Join(f, n) => Request::Join(n, f.to_vec()),
         });
-        let row = Row { answer: expected, written: &self.expected_store, read: input.kept };
-        let ours = Row { answer: ours, written: &self.store, read: &input.lent };
-        tally.compare(kind, row, ours, || self.told()).then_some(expected.heard())
-    }
-
-    /// The rules' answer and state. The source must agree with the answer, but for the cause, of which it says nothing. Into the
-    /// expected store go the bytes that the call may write. What the rules refuse does not go to the source.
-    fn expect(&mut self, call: Call) -> Pushed {
-        let (ruled, state) = rules::answer(self.expected, &mut self.expected_store, call);
-        self.expected = state;
-        let answer = match (ruled, call) {
-            (Heard::Refused(_), _) => return Pushed::of(ruled, state),
-            (_, Call::Push(frame, field)) => self.source.push(frame, field),
-            (_, Call::Join(f, n)) => self.source.join(f, n),
-        };
-        let agreed = match answer {
-            Answer::Dropped => matches!(ruled, Heard::Dropped(_)),
-            Answer::More => ruled == Heard::More,
-            Answer::Done(message) => {
-                self.expected_store[..message.len()].copy_from_slice(&message);
-                ruled == Heard::Done(message.len())
-            }
-        };
-        assert!(agreed, "the source, and document 01's rules, which say {ruled:?}, on {call:02X?}");
-        Pushed::of(ruled, state)
+        let row = Row { answer: expected, written: &self.history.store.bytes, read: input.kept };
+        let ours = Row { answer: ours, written: &self.store.bytes, read: &input.lent };
+        tally.compare(kind, row, ours, || self.history.told()).then_some(expected.heard())
     }
 
     pub fn reset(&mut self, tally: &mut Tally) {
-        self.source.reset();
+        let History { source, expected, calls, .. } = &mut self.history;
+        source.reset();
         self.ours = self.ours.reset();
-        self.expected = rules::reset(self.expected);
-        self.calls.push(Request::Reset);
-        let expected = Row { answer: self.expected, written: &self.expected_store, read: &[] };
-        let ours = Row { answer: self.ours, written: &self.store, read: &[] };
-        tally.compare(Kind::Reset, expected, ours, || self.told());
+        *expected = rules::reset(*expected);
+        calls.push(Request::Reset);
+        let expected = Row { answer: self.history.expected, written: &self.history.store.bytes, read: &[] };
+        let ours = Row { answer: self.ours, written: &self.store.bytes, read: &[] };
+        tally.compare(Kind::Reset, expected, ours, || self.history.told());
     }
 
     /// Our state, with the bytes held, against the source's own. An overflow may be any byte but 0 here, since a caller may
     /// show it so. The source has no tallies: those expected are the rules'.
     pub fn state(&self, tally: &mut Tally) {
-        let source = self.source.state();
+        let source = self.history.source.state();
         let overflow = if source.overflow { self.ours.overflow.max(1) } else { 0 };
         let expected = xara::Receiver {
             held: source.held.len(),
@@ -129,33 +160,52 @@ impl Pair {
             count: source.check,
             crc_mask: source.mask,
             overflow,
-            tallies: self.expected.tallies,
+            tallies: self.history.expected.tallies,
         };
-        let held = self.store.get(..self.ours.held).unwrap_or_default();
+        let held = self.store.seen().get(..self.ours.held).unwrap_or_default();
         let expected = Row { answer: expected, written: &source.held, read: &[] };
         let ours = Row { answer: self.ours, written: held, read: &[] };
-        tally.compare(Kind::State, expected, ours, || self.told() + "\nstate a");
+        tally.compare(Kind::State, expected, ours, || self.history.told() + "\nstate a");
     }
 
     /// Our tallies at the end of a history against the answers that came back since the receiver was new.
     pub fn conserved(&self, tally: &mut Tally) {
-        let expected = self.answers.balance();
+        let expected = self.history.answers.balance();
         let ours = Balance::of(self.ours.tallies);
         tally.conserved(expected.tallies);
-        tally.compare(Kind::Conserved, Row::of(expected), Row::of(ours), || self.told());
+        tally.compare(Kind::Conserved, Row::of(expected), Row::of(ours), || self.history.told());
     }
 
-    /// All calls as requests to the oracle's line program.
-    fn told(&self) -> String {
-        let mut text = format!("new a {:02X}", self.mask);
-        for call in &self.calls {
-            text += &match call {
-                Request::Push(field, frame) => format!("\npush a {field} {}", to_hex(frame)),
-                Request::Join(n, f) => format!("\njoin a {n} {}", to_hex(f)),
-                Request::Reset => "\nreset a".to_string(),
-            };
-        }
-        text
+    pub fn history(&self) -> &History {
+        &self.history
+    }
+
+    pub fn mask(&self) -> u8 {
+        self.history.mask
+    }
+
+    pub fn store(&self) -> &Lent {
+        &self.store
+    }
+
+    /// Another store, which the receiver that there is must not be called with.
+    pub fn lend(&mut self, store: Lent) {
+        self.history.store = store.clone();
+        self.store = store;
+    }
+
+    /// Both receivers go on with the history up to a keeping: ours from the state that came back. The store that the rules wrote must
+    /// be the one that was kept.
+    pub fn resume(&mut self, history: History, ours: xara::Receiver) {
+        let written = self.history.store.clone();
+        assert!(history.store.seen() == written.seen(), "the rules, and the store that was kept");
+        self.history = History { store: written, ..history };
+        self.ours = ours;
+    }
+
+    /// Our state and store, and both as they must be.
+    pub fn sides(&mut self) -> [(xara::Receiver, &mut Lent); 2] {
+        [(self.ours, &mut self.store), (self.history.expected, &mut self.history.store)]
     }
 }
 

@@ -1,5 +1,7 @@
 //! Document 01's rules of the receiver on any state, also on one that no call leads to: there the source can't be asked. With them
-//! go document 02's tallies, which the source does not have at all (E12).
+//! go document 02's tallies, which the source does not have at all (E12), and its kept states (E8).
+
+pub mod kept;
 
 use crate::lent::Input;
 use crate::xara::{Cause, Heard, Pushed, Receiver, Tallies};
@@ -40,7 +42,7 @@ pub fn answer(state: Receiver, store: &mut [u8], call: Call) -> (Heard, Receiver
     if let Some(refusal) = refusal(state, store.len(), call) {
         return (Heard::Refused(refusal), state);
     }
-    let state = Receiver { overflow: u8::from(state.overflow != 0), ..state };
+    let state = shown(state);
     let (heard, after) = match call {
         Call::Push(frame, field) => push(state, store, frame, field),
         Call::Join(f, n) => join(state, store, f, n),
@@ -55,16 +57,31 @@ pub fn reset(state: Receiver) -> Receiver {
 
 /// The table's order: 17, 9, 8. Then "27 when offered or any other tally is already the largest 64-bit number" (02).
 fn refusal(state: Receiver, size: usize, call: Call) -> Option<u8> {
-    if size != MAX_MESSAGE || state.held > MAX_MESSAGE || state.nfrag > MOST_FRAGMENTS {
+    if size != MAX_MESSAGE || oversized(state) {
         return Some(17);
     }
-    if !MASKS.contains(&state.crc_mask) {
+    if bad_mask(state) {
         return Some(9);
     }
     if matches!(call, Call::Push(_, field) if !FIELDS.contains(&field)) {
         return Some(8);
     }
     state.tallies.numbers().contains(&u64::MAX).then_some(27)
+}
+
+/// A state that 17 refuses with any store.
+fn oversized(state: Receiver) -> bool {
+    state.held > MAX_MESSAGE || state.nfrag > MOST_FRAGMENTS
+}
+
+/// A state that 9 refuses.
+fn bad_mask(state: Receiver) -> bool {
+    !MASKS.contains(&state.crc_mask)
+}
+
+/// The state with its overflow as 0 or 1.
+fn shown(state: Receiver) -> Receiver {
+    Receiver { overflow: u8::from(state.overflow != 0), ..state }
 }
 
 /// "Frames offered, More, Done, and Dropped by cause: wrong length, no fragment, overflow, limit, check" (02): what is not refused

@@ -3,7 +3,7 @@
 use crate::conserved::Balance;
 use crate::slots::Slots;
 use crate::tally::{KINDS, Row, same};
-use crate::xara::{Answer, Decoded, Encoded, Fresh, Pushed, Receiver, Summary};
+use crate::xara::{Answer, Decoded, Encoded, Fresh, Keeping, Kept, Pushed, Receiver, Summary};
 use std::any::type_name;
 use std::collections::BTreeMap;
 use std::fmt::Debug;
@@ -45,18 +45,16 @@ impl Field for u128 {
     }
 }
 
+/// The parts of a struct: the way to each, with the places in lists.
 macro_rules! parts {
-    ($type:ident: $($($field:ident).+),+) => {
+    ($type:ident: $($($field:ident $([$place:literal])?).+),+ $(,)?) => {
         impl Parts for $type {
-            const NAMES: &'static [&'static str] = &[$(stringify!($($field).+)),+];
+            const NAMES: &'static [&'static str] = &[$(stringify!($($field $([$place])?).+)),+];
 
             fn spoil(&mut self, part: usize) {
-                let fields: [&mut dyn Field; Self::NAMES.len()] = [$(&mut self.$($field).+),+];
-                for (k, field) in fields.into_iter().enumerate() {
-                    if k == part {
-                        field.change();
-                    }
-                }
+                let fields: [fn(&mut Self) -> &mut dyn Field; Self::NAMES.len()] =
+                    [$(|answer| &mut answer.$($field $([$place])?).+),+];
+                fields[part](self).change();
             }
         }
     };
@@ -83,12 +81,40 @@ macro_rules! receiver_parts {
     };
 }
 
+/// The parts of a struct that has kept states: its other fields, and the way to the slots. It goes through their places one after the
+/// other, with the parts that it has so far.
+macro_rules! kept_parts {
+    ($type:ident: $($field:ident,)*; $($way:ident.)*) => {
+        kept_parts!(@ $type [$($field,)*] [$($way.)*] 0 1 2 3 4 5 6 7);
+    };
+    (@ $type:ident [$($parts:tt)*] [$($way:tt)*] $place:literal $($places:literal)*) => {
+        kept_parts!(@ $type [
+            $($parts)* $($way)* slots[$place].len,
+            $($way)* slots[$place].name[0], $($way)* slots[$place].name[1], $($way)* slots[$place].name[2],
+            $($way)* slots[$place].name[3], $($way)* slots[$place].name[4], $($way)* slots[$place].name[5],
+            $($way)* slots[$place].name[6], $($way)* slots[$place].name[7],
+            $($way)* slots[$place].receiver.held, $($way)* slots[$place].receiver.nfrag,
+            $($way)* slots[$place].receiver.count, $($way)* slots[$place].receiver.crc_mask,
+            $($way)* slots[$place].receiver.overflow, $($way)* slots[$place].receiver.tallies.offered,
+            $($way)* slots[$place].receiver.tallies.more, $($way)* slots[$place].receiver.tallies.done,
+            $($way)* slots[$place].receiver.tallies.wrong_length, $($way)* slots[$place].receiver.tallies.no_fragment,
+            $($way)* slots[$place].receiver.tallies.overflow, $($way)* slots[$place].receiver.tallies.limit,
+            $($way)* slots[$place].receiver.tallies.check,
+        ] [$($way)*] $($places)*);
+    };
+    (@ $type:ident [$($parts:tt)*] [$($way:tt)*]) => {
+        parts!($type: $($parts)*);
+    };
+}
+
 parts!(Answer: ok, refusal, value);
 parts!(Slots: count, full, last);
 tallies_parts!(Receiver: held, nfrag, count, crc_mask, overflow;);
 receiver_parts!(Fresh: ok, refusal);
 receiver_parts!(Pushed: kind, refusal, cause, length);
 tallies_parts!(Balance: sum;);
+kept_parts!(Kept: ;);
+kept_parts!(Keeping: ok, refusal, place,; kept.);
 parts!(Encoded: ok, refusal, aprs_type, length);
 parts!(Summary: ok, refusal, aprs_type, ui, digis);
 parts!(Decoded: ok, refusal, command, length);
@@ -131,7 +157,7 @@ impl Spoiled {
             self.parts.entry((kind, type_name::<T>(), name)).or_default();
         }
         let part = turn % names.len();
-        let found = !same(expected, &spoiled(ours, part, names[part], turn).borrowed());
+        let found = !same(expected, &spoiled(ours, part, names[part], place(turn, names.len())).borrowed());
         let times = self.parts.entry((kind, type_name::<T>(), names[part])).or_default();
         times.spoiled += 1;
         times.found += u64::from(found);
@@ -156,6 +182,12 @@ impl Spoiled {
         }
         (text, found)
     }
+}
+
+/// The place of a byte to spoil: by turns the next from the first on, and one that is spread over all.
+fn place(turn: usize, parts: usize) -> usize {
+    let round = turn / parts;
+    if round.is_multiple_of(2) { round / 2 } else { turn }
 }
 
 /// A row with bytes of its own.
@@ -189,13 +221,15 @@ fn spoiled<T: Parts>(row: &Row<T>, part: usize, name: &str, place: usize) -> Own
 #[cfg(test)]
 mod tests {
     use super::*;
-    use crate::xara::{Heard, Tallies};
+    use crate::xara::{Heard, MAX_NAME, Tallies};
 
     /// Every field that a struct shows has a name here, and each is changed by its number.
     fn every_field<T: Parts>(answer: T) {
         let shown = format!("{answer:?}");
-        let inner = shown.matches("receiver: ").count() + shown.matches("tallies: ").count();
-        assert_eq!(shown.matches(": ").count() - inner, T::NAMES.len(), "{shown}");
+        let labels = |words: &str| shown.matches(words).count();
+        let inner: usize = ["receiver: ", "tallies: ", "kept: ", "slots: "].map(labels).iter().sum();
+        let bytes = labels("name: ") * (MAX_NAME - 1);
+        assert_eq!(labels(": ") - inner + bytes, T::NAMES.len(), "{shown}");
         for part in 0..T::NAMES.len() {
             let mut changed = answer;
             changed.spoil(part);
@@ -213,6 +247,8 @@ mod tests {
         every_field(Fresh::of(Err(9)));
         every_field(Pushed::of(Heard::Done(7), Receiver::default()));
         every_field(Balance::of(Tallies::default()));
+        every_field(Kept::default());
+        every_field(Keeping::of(Ok(7), Kept::default()));
         every_field(Encoded::of(Ok((7, 1))));
         every_field(Summary::of(Ok((1, 7, true))));
         every_field(Decoded::of(Err(7)));

@@ -1,11 +1,13 @@
 //! Compares what is expected with what our side did, and counts.
 
+use crate::met::{ByName, Call, Met};
 use crate::spoil::{Parts, Spoiled};
 use crate::tallies::{self, Ends};
 use crate::xara::{Heard, Tallies};
 use std::collections::BTreeMap;
 
-/// What is compared: a call of each kind, the lengths of fragments, states, and what tallies add up to.
+/// What is compared: a call of each kind, the lengths of fragments, states, what tallies add up to, and the messages that are completed
+/// after a return.
 #[derive(Clone, Copy)]
 pub enum Kind {
     Crc,
@@ -20,6 +22,12 @@ pub enum Kind {
     State,
     MadeUp,
     Conserved,
+    KeptNone,
+    Keep,
+    Return,
+    Drop,
+    Completed,
+    KeptMadeUp,
     Encode,
     Summary,
     Decode,
@@ -30,7 +38,7 @@ pub enum Kind {
 }
 
 /// How many kinds there are.
-pub const KINDS: usize = 19;
+pub const KINDS: usize = 25;
 
 const ROWS: [&str; KINDS] = [
     "crc",
@@ -45,6 +53,12 @@ const ROWS: [&str; KINDS] = [
     "receiver state",
     "receiver made up",
     "receiver tallies",
+    "kept none",
+    "keep",
+    "return",
+    "drop",
+    "completed message",
+    "kept made up",
     "encode",
     "summary",
     "decode",
@@ -92,6 +106,7 @@ pub struct Tally {
     made_up_refused: u64,
     made_up_answered: u64,
     ends: Ends,
+    by_name: ByName,
     every_room: u64,
     cut: BTreeMap<Result<u8, u8>, Cut>,
     several: u64,
@@ -162,6 +177,16 @@ impl Tally {
         self.ends.note(before, heard, after);
     }
 
+    /// Counts the answers of the calls on kept states: accepted, or a refusal.
+    pub fn by_name(&mut self, call: Call, refusal: Option<u8>) {
+        self.by_name.answered(call, refusal);
+    }
+
+    /// Counts what a list of operations on kept states met.
+    pub fn met(&mut self, met: Met) {
+        self.by_name.met(met);
+    }
+
     /// Counts the calls that were given every output length from 0 on.
     pub fn every_room(&mut self) {
         self.every_room += 1;
@@ -213,12 +238,13 @@ impl Tally {
         self.unchanged_mended += u64::from(mended);
     }
 
-    /// What a run must meet and did not: each answer in the histories, and each end of each tally on made-up states.
+    /// What a run must meet and did not: each answer in the histories, each end of each tally on made-up states, and what there is of
+    /// kept states.
     pub fn unmet(&self) -> Vec<String> {
         let heard = tallies::NAMES.iter().zip(self.heard);
         let answers = heard.filter(|&(_, times)| times == 0).map(|(name, _)| format!("{name} in a history"));
         let ends = self.ends.unmet().map(|words| format!("{words} for each tally at 2^64 - 1"));
-        answers.chain(ends).collect()
+        answers.chain(ends).chain(self.by_name.unmet()).collect()
     }
 
     pub fn compared(&self) -> u64 {
@@ -244,6 +270,7 @@ impl Tally {
         text += &format!("{}\n", heard.join(", "));
         text += &format!("made up: {} answered, {} refused\n", self.made_up_answered, self.made_up_refused);
         text += &format!("for each tally at 2^64 - 1, at least: {}\n", self.ends.told());
+        text += &self.by_name.told();
         text += &format!("with every output length from 0: {} calls\n", self.every_room);
         text += &format!("cut: {}\n", told_cut(&self.cut));
         text += &format!(

@@ -86,6 +86,36 @@ pub struct Pushed {
     pub receiver: Receiver,
 }
 
+/// The most bytes of a name.
+pub const MAX_NAME: usize = 8;
+/// How many states can be kept.
+pub const PLACES: usize = 8;
+
+/// A state under the name in the first `len` bytes. Where `len` is not 1 to 8 none is kept here.
+#[repr(C)]
+#[derive(Clone, Copy, Debug, Default, PartialEq, Eq)]
+pub struct KeptSlot {
+    pub len: usize,
+    pub name: [u8; MAX_NAME],
+    pub receiver: Receiver,
+}
+
+/// The kept states. The store of each is in the lent bytes, at its place.
+#[repr(C)]
+#[derive(Clone, Copy, Debug, Default, PartialEq, Eq)]
+pub struct Kept {
+    pub slots: [KeptSlot; PLACES],
+}
+
+#[repr(C)]
+#[derive(Clone, Copy, Debug, PartialEq, Eq)]
+pub struct Keeping {
+    pub ok: u8,
+    pub refusal: u8,
+    pub place: usize,
+    pub kept: Kept,
+}
+
 #[repr(C)]
 #[derive(Clone, Copy, Debug, PartialEq, Eq)]
 pub struct Encoded {
@@ -153,6 +183,27 @@ unsafe extern "C" {
         n: usize,
     ) -> Pushed;
     fn xara_receiver_reset(receiver: Receiver) -> Receiver;
+    fn xara_kept_none() -> Kept;
+    fn xara_kept_keep(
+        kept: Kept,
+        receiver: Receiver,
+        store: *const u8,
+        store_len: usize,
+        lent: *mut u8,
+        lent_len: usize,
+        name: *const u8,
+        name_len: usize,
+    ) -> Keeping;
+    fn xara_kept_return(
+        kept: Kept,
+        store: *mut u8,
+        store_len: usize,
+        lent: *const u8,
+        lent_len: usize,
+        name: *const u8,
+        name_len: usize,
+    ) -> Fresh;
+    fn xara_kept_drop(kept: Kept, lent: *const u8, lent_len: usize, name: *const u8, name_len: usize) -> Keeping;
     fn xara_encode(command: u8, data: *const u8, data_len: usize, out: *mut u8, out_len: usize) -> Encoded;
     fn xara_summary(command: u8, data: *const u8, data_len: usize) -> Summary;
     fn xara_decode(message: *const u8, message_len: usize, out: *mut u8, out_len: usize) -> Decoded;
@@ -218,6 +269,35 @@ impl Receiver {
     }
 }
 
+impl Kept {
+    pub fn none() -> Self {
+        unsafe { xara_kept_none() }
+    }
+
+    pub fn keep<'a>(
+        self,
+        receiver: Receiver,
+        store: impl Into<Bytes<'a>>,
+        lent: &mut [u8],
+        name: impl Into<Bytes<'a>>,
+    ) -> Keeping {
+        let (store, name) = (store.into(), name.into());
+        let (lent, lent_len) = (lent.as_mut_ptr(), lent.len());
+        unsafe { xara_kept_keep(self, receiver, store.start, store.length, lent, lent_len, name.start, name.length) }
+    }
+
+    pub fn return_to<'a>(self, store: &mut [u8], lent: impl Into<Bytes<'a>>, name: impl Into<Bytes<'a>>) -> Fresh {
+        let (lent, name) = (lent.into(), name.into());
+        let (store, store_len) = (store.as_mut_ptr(), store.len());
+        unsafe { xara_kept_return(self, store, store_len, lent.start, lent.length, name.start, name.length) }
+    }
+
+    pub fn drop_name<'a>(self, lent: impl Into<Bytes<'a>>, name: impl Into<Bytes<'a>>) -> Keeping {
+        let (lent, name) = (lent.into(), name.into());
+        unsafe { xara_kept_drop(self, lent.start, lent.length, name.start, name.length) }
+    }
+}
+
 /// Why a frame or a fragment is dropped, by its number.
 #[derive(Clone, Copy, Debug, PartialEq, Eq)]
 pub enum Cause {
@@ -248,6 +328,13 @@ impl Answer {
 impl Fresh {
     pub fn told(self) -> Result<Receiver, u8> {
         told(self.ok, self.refusal, self.receiver)
+    }
+}
+
+impl Keeping {
+    /// The place of the name.
+    pub fn told(self) -> Result<usize, u8> {
+        told(self.ok, self.refusal, self.place)
     }
 }
 
