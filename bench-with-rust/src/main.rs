@@ -1,6 +1,7 @@
 //! Times the exported functions and the unmodified Rust on the same inputs, and prints a table.
 
 mod inputs;
+mod kept;
 mod receivers;
 mod rows;
 mod table;
@@ -31,6 +32,9 @@ fn main() -> ExitCode {
     receivers::dropped(&mut table);
     receivers::reset(&mut table);
     receivers::new(&mut table);
+    kept::by_name(&mut table);
+    kept::copies(&mut table);
+    kept::none(&mut table);
     if table.is_empty() {
         eprintln!("no row's name and bytes hold the pattern");
         return ExitCode::from(2);

@@ -209,13 +209,13 @@ pub fn dropped(table: &mut Table) {
 }
 
 /// A new receiver of each side.
-fn receivers() -> (Reassembler, Receiver) {
+pub fn receivers() -> (Reassembler, Receiver) {
     let ours = Receiver::fresh(HF_CRC_MASK).told().expect("the mask is accepted");
     (Reassembler::with_crc_mask(HF_CRC_MASK), ours)
 }
 
-/// A reset and a new receiver take so few nanoseconds that this many are timed as one.
-const CALLS: usize = 100;
+/// A reset, a new receiver and no kept states take so few nanoseconds that this many are timed as one.
+pub const CALLS: usize = 100;
 
 /// Resets of a receiver.
 pub fn reset(table: &mut Table) {
