@@ -1,10 +1,11 @@
 /*
  * Every output length from 0 to one more than the answer's, every refusal's number, frames and fragments of every length, texts
  * with white space and the bytes beside it at their edges, every control byte, every mask with its longest messages and its worked
- * examples, the lengths of fragments, both readings of WIDE calls in every place, receiver states that no call leads to, and
- * tallies up to the largest 64-bit number. Every field of every answer is looked at, flags as the bytes that they are, and every
- * input for being unchanged. Every buffer has its exact length on the heap, so that valgrind sees a byte read or written beside
- * it. Prints how many calls were held against what is to be expected; the exit status is 1 where one differs.
+ * examples, the lengths of fragments, both readings of WIDE calls in every place, receiver states that no call leads to, tallies
+ * up to the largest 64-bit number, and states that are kept under names, with the lent bytes of their stores. Every field of every
+ * answer is looked at, flags as the bytes that they are, and every input for being unchanged. Every buffer has its exact length on
+ * the heap, so that valgrind sees a byte read or written beside it. Prints how many calls were held against what is to be
+ * expected; the exit status is 1 where one differs.
  */
 #include "xara.h"
 
@@ -1503,6 +1504,576 @@ static void tally_edges(void)
     last_of_each();
 }
 
+/* Slots, kept states, and what a keep or a drop answers, in all their fields. */
+static bool same_slot(const XaraSlot *a, const XaraSlot *b)
+{
+    return a->len == b->len && memcmp(a->name, b->name, XARA_MAX_NAME) == 0 && same(a->receiver, b->receiver);
+}
+
+static bool same_kept(const XaraKept *a, const XaraKept *b)
+{
+    for (size_t i = 0; i < XARA_KEPT; i++)
+        if (!same_slot(&a->slots[i], &b->slots[i]))
+            return false;
+    return true;
+}
+
+static bool kept_so(XaraKeeping a, uint8_t refusal, size_t place, const XaraKept *kept)
+{
+    return FLAG(XaraKeeping, a, ok) == (refusal == 0) && a.refusal == refusal && a.place == place && same_kept(&a.kept, kept);
+}
+
+/* A name, which may be too long by one or two. */
+typedef struct {
+    size_t n;
+    uint8_t bytes[XARA_MAX_NAME + 2];
+} Name;
+
+#define NAME(text) ((Name){sizeof(text) - 1, text})
+
+/* A name of one letter: A is 0. */
+static Name letter(size_t i)
+{
+    return (Name){1, {(uint8_t)('A' + i)}};
+}
+
+static XaraReceiver flagged(XaraReceiver r)
+{
+    r.overflow = r.overflow != 0;
+    return r;
+}
+
+static XaraSlot slot_of(Name name, XaraReceiver r)
+{
+    XaraSlot slot = {.len = name.n, .receiver = r};
+    memcpy(slot.name, name.bytes, name.n);
+    return slot;
+}
+
+/* Kept states as an accepted call hands them back, with this slot at a place. */
+static XaraKept with_slot(XaraKept kept, size_t place, XaraSlot slot)
+{
+    kept.slots[place] = slot;
+    for (size_t i = 0; i < XARA_KEPT; i++)
+        kept.slots[i].receiver = flagged(kept.slots[i].receiver);
+    return kept;
+}
+
+/* A receiver with its store, and kept states with theirs. */
+typedef struct {
+    XaraReceiver receiver;
+    XaraKept kept;
+    uint8_t *store, *lent;
+    size_t store_len, lent_len;
+} Station;
+
+/* So many bytes that look like no others. */
+static uint8_t *mixed(size_t n)
+{
+    static uint32_t number = 1;
+    uint8_t *bytes = filled(n);
+    for (size_t i = 0; i < n; i++) {
+        number = number * 1664525 + 1013904223;
+        bytes[i] = (uint8_t)(number >> 24);
+    }
+    return bytes;
+}
+
+/* The receiver is in the middle of a message, and the slots are free. */
+static Station station(size_t store_len, size_t lent_len)
+{
+    return (Station){{4, 1, 0x40, XARA_MASK_HF, 0, few}, {{{0, {0}, {0}}}}, mixed(store_len), mixed(lent_len), store_len, lent_len};
+}
+
+static void closed(Station s)
+{
+    free(s.store);
+    free(s.lent);
+}
+
+/* The bytes that a call is lent as they are to be after it, and the name that it is lent. */
+typedef struct {
+    uint8_t *store, *lent, *name;
+} Bytes;
+
+static Bytes bytes_of(const Station *s, Name name)
+{
+    return (Bytes){copied(s->store, s->store_len), copied(s->lent, s->lent_len), copied(name.bytes, name.n)};
+}
+
+static void expect_bytes(const Station *s, Name name, Bytes after, const char *what, size_t at)
+{
+    expect(memcmp(s->store, after.store, s->store_len) == 0 && memcmp(s->lent, after.lent, s->lent_len) == 0 &&
+               memcmp(name.bytes, after.name, name.n) == 0,
+           what, at);
+    free(after.store);
+    free(after.lent);
+    free(after.name);
+}
+
+/* A keep of the receiver goes to a place, or is refused with this: then the place is 0. */
+static void keeps(Station *s, Name name, uint8_t refusal, size_t place)
+{
+    Bytes bytes = bytes_of(s, name);
+    XaraKept after = s->kept;
+    if (refusal == 0) {
+        after = with_slot(after, place, slot_of(name, s->receiver));
+        memcpy(bytes.lent + place * XARA_STORE, bytes.store, XARA_STORE);
+    }
+    XaraKeeping a = xara_kept_keep(s->kept, s->receiver, s->store, s->store_len, s->lent, s->lent_len, bytes.name, name.n);
+    expect(kept_so(a, refusal, place, &after), "keep", refusal + place);
+    expect_bytes(s, name, bytes, "bytes of a keep", refusal + place);
+    s->kept = a.kept;
+}
+
+/* A return brings the receiver of this place with its store, or is refused with this: then the receiver is all zeros. */
+static void returns(Station *s, Name name, uint8_t refusal, size_t place)
+{
+    Bytes bytes = bytes_of(s, name);
+    XaraReceiver after = {0};
+    if (refusal == 0) {
+        after = flagged(s->kept.slots[place].receiver);
+        memcpy(bytes.store, bytes.lent + place * XARA_STORE, XARA_STORE);
+    }
+    XaraFresh a = xara_kept_return(s->kept, s->store, s->store_len, s->lent, s->lent_len, bytes.name, name.n);
+    expect(fresh(a, refusal, after), "return", refusal + place);
+    expect_bytes(s, name, bytes, "bytes of a return", refusal + place);
+    if (refusal == 0)
+        s->receiver = a.receiver;
+}
+
+/* A drop makes this place free, or is refused with this: then the place is 0. */
+static void drops(Station *s, Name name, uint8_t refusal, size_t place)
+{
+    Bytes bytes = bytes_of(s, name);
+    XaraKept after = refusal == 0 ? with_slot(s->kept, place, (XaraSlot){0, {0}, {0}}) : s->kept;
+    XaraKeeping a = xara_kept_drop(s->kept, s->lent, s->lent_len, bytes.name, name.n);
+    expect(kept_so(a, refusal, place, &after), "drop", refusal + place);
+    expect_bytes(s, name, bytes, "bytes of a drop", refusal + place);
+    s->kept = a.kept;
+}
+
+/* The refusals of a keep, a return and a drop by one name, 0 for none; one that is not refused has this place. */
+static void each_refusal(Station s, Name name, const uint8_t refusals[3], size_t place)
+{
+    Station again = s;
+    keeps(&s, name, refusals[0], refusals[0] == 0 ? place : 0);
+    s = again;
+    returns(&s, name, refusals[1], refusals[1] == 0 ? place : 0);
+    s = again;
+    drops(&s, name, refusals[2], refusals[2] == 0 ? place : 0);
+}
+
+/* A name is kept at this place: each call finds it. */
+static void known(Station s, Name name, size_t place)
+{
+    each_refusal(s, name, (const uint8_t[3]){0, 0, 0}, place);
+}
+
+/* A name is not kept: a keep puts it to this place, or is refused with this. */
+static void unknown(Station s, Name name, uint8_t refusal, size_t place)
+{
+    each_refusal(s, name, (const uint8_t[3]){refusal, XARA_REFUSAL_NAME, XARA_REFUSAL_NAME}, place);
+}
+
+/* A name that is no name. */
+static void unnamed(Station s, Name name)
+{
+    unknown(s, name, XARA_REFUSAL_NAME, 0);
+}
+
+/* A station with so many names of one letter kept, each with a receiver and a store of its own. */
+static Station keeping(size_t names)
+{
+    Station s = station(XARA_STORE, XARA_KEPT_STORE);
+    for (size_t i = 0; i < names; i++) {
+        s.receiver = (XaraReceiver){4 + i, 1 + i, (uint8_t)(0x40 + i), masks[i % MASKS].mask, 0, few};
+        s.receiver.tallies.offered = i;
+        keeps(&s, letter(i), 0, i);
+        free(s.store);
+        s.store = mixed(XARA_STORE);
+    }
+    return s;
+}
+
+/* A push to the receiver of a station. */
+static void hears(Station *s, Step step)
+{
+    XaraPushed a = answer_to(&step, s->receiver, s->store);
+    expect(pushed(a, step.kind, step.code, step.done, step.after), "heard", step.done);
+    s->receiver = a.receiver;
+}
+
+/* Two channels are left with the same message half heard, under F0 and under F8, and the first is returned to. */
+static Station worked_journey(void)
+{
+    static const uint8_t half[] = {0xC0, 0xAC, 0xB7, 0x01}, alone[] = {0x40, 0x00, 0x10, 0x40};
+    static const uint8_t message[] = {0x40, 0xAC, 0xB7, 0x01, 0x00, 0x10, 0x40};
+    static const Step first = {PUSH, 5, 8, FIRST, XARA_MORE, 0, 0, {4, 1, 0x40, 0xF0, 0, {1, 1, 0, 0, 0, 0, 0, 0}}};
+    static const Step other = {PUSH, 5, 8, LAST, XARA_DONE, 0, 4, {0, 1, 0x00, 0xF8, 0, {1, 0, 1, 0, 0, 0, 0, 0}}};
+    static const Step again = {PUSH, 5, 8, FIRST, XARA_MORE, 0, 0, {4, 1, 0x40, 0xF8, 0, {2, 1, 1, 0, 0, 0, 0, 0}}};
+    static const Step last = {PUSH, 5, 8, LAST, XARA_DONE, 0, 7, {0, 2, 0x40, 0xF0, 0, {2, 1, 1, 0, 0, 0, 0, 0}}};
+    Station s = station(XARA_STORE, XARA_KEPT_STORE);
+    s.kept = xara_kept_none();
+    s.receiver = xara_receiver_new(XARA_MASK_HF).receiver;
+    hears(&s, first);
+    keeps(&s, NAME("net"), 0, 0);
+    expect(memcmp(s.lent, half, sizeof half) == 0, "lent bytes of a message half heard", 0);
+    s.receiver = xara_receiver_new(XARA_MASK_FM).receiver;
+    hears(&s, other);
+    expect(memcmp(s.store, alone, sizeof alone) == 0, "message of another channel", 0);
+    hears(&s, again);
+    keeps(&s, NAME("fm"), 0, 1);
+    returns(&s, NAME("net"), 0, 0);
+    hears(&s, last);
+    expect(memcmp(s.store, message, sizeof message) == 0, "message after a return", 0);
+    return s;
+}
+
+/* Names after that: one is dropped, and more are kept than there is room for. */
+static Station worked_names(void)
+{
+    Station s = worked_journey();
+    drops(&s, NAME("net"), 0, 0);
+    returns(&s, NAME("net"), XARA_REFUSAL_NAME, 0);
+    keeps(&s, NAME("x"), 0, 0);
+    for (size_t i = 2; i < XARA_KEPT; i++)
+        keeps(&s, letter(i), 0, i);
+    keeps(&s, NAME("ninth"), XARA_REFUSAL_KEPT, 0);
+    keeps(&s, NAME("fm"), 0, 1);
+    unnamed(s, NAME(""));
+    unnamed(s, NAME("ninebytes"));
+    return s;
+}
+
+/* What is no state, after that: each with a name that would be refused with 20, too. */
+static void kept_example(void)
+{
+    Station s = worked_names(), less = station(XARA_STORE, XARA_KEPT_STORE - 1);
+    s.receiver.crc_mask = 0xF1;
+    keeps(&s, NAME(""), XARA_REFUSAL_MASK, 0);
+    s.receiver.nfrag = 256;
+    keeps(&s, NAME(""), XARA_REFUSAL_STATE, 0);
+    s.receiver = xara_receiver_new(XARA_MASK_HF).receiver;
+    s.kept.slots[4].receiver.crc_mask = 0x00;
+    each_refusal(s, NAME("fm"), (const uint8_t[3]){XARA_REFUSAL_MASK, XARA_REFUSAL_MASK, XARA_REFUSAL_MASK}, 0);
+    each_refusal(less, NAME(""), (const uint8_t[3]){XARA_REFUSAL_STATE, XARA_REFUSAL_STATE, XARA_REFUSAL_STATE}, 0);
+    closed(s);
+    closed(less);
+}
+
+/* Nothing is kept: zeros in every field. All places are then taken in their order, and a place that is dropped is taken again. */
+static void kept_places(void)
+{
+    static const XaraKept zeros = {{{0, {0}, {0}}}};
+    XaraKept none = xara_kept_none();
+    expect(same_kept(&none, &zeros), "nothing kept", 0);
+    for (size_t i = 0; i < XARA_KEPT; i++) {
+        Station some = keeping(i), all = keeping(XARA_KEPT);
+        unknown(some, letter(i), 0, i);
+        known(all, letter(i), i);
+        unknown(all, NAME("new"), XARA_REFUSAL_KEPT, 0);
+        drops(&all, letter(i), 0, i);
+        unknown(all, letter(i), 0, i);
+        if (i > 0) {
+            drops(&all, letter(i / 2), 0, i / 2);
+            unknown(all, letter(i), 0, i / 2);
+        }
+        closed(some);
+        closed(all);
+    }
+}
+
+/* Every length of a store around 5,000 and of the lent bytes around 40,000. A drop is lent no store. */
+static void kept_lengths(void)
+{
+    static const size_t stores[] = {5000, 0, 1, 4999, 5001, 40000}, lents[] = {40000, 0, 1, 5000, 35000, 39999, 40001, 45000};
+    for (size_t i = 0; i < 6 * 8; i++) {
+        Station s = keeping(3), odd = station(stores[i % 6], lents[i / 6]);
+        odd.kept = s.kept;
+        uint8_t lent = i / 6 == 0 ? 0 : XARA_REFUSAL_STATE, any = i == 0 ? 0 : XARA_REFUSAL_STATE;
+        each_refusal(odd, letter(1), (const uint8_t[3]){any, any, lent}, 1);
+        closed(s);
+        closed(odd);
+    }
+}
+
+/* The three calls by name. */
+enum { KEEP, RETURN, DROP };
+
+/*
+ * Faults by number, 0 for none. Of sizes: 1 a store, 2 the lent bytes, 3 to 6 a state that holds too much, 7 to 10 one that counts
+ * too much. Of masks: 1 to 4. The four states are the one that is handed in to a keep, and those of three slots.
+ */
+#define SIZE_FAULTS 11
+#define MASK_FAULTS 5
+
+/* The refusal of a call by a fault of a size and one of a mask. */
+static uint8_t fault_refusal(int call, size_t size, size_t mask)
+{
+    bool lent = size != 0 && !(size == 1 && call == DROP), handed_in = size == 3 || size == 7;
+    if (lent && (call == KEEP || !handed_in))
+        return XARA_REFUSAL_STATE;
+    return mask != 0 && (call == KEEP || mask != 1) ? XARA_REFUSAL_MASK : 0;
+}
+
+/* A station with these faults. */
+static Station faulty(size_t size, size_t mask, XaraKept kept)
+{
+    Station s = station(XARA_STORE - (size == 1), XARA_KEPT_STORE - (size == 2));
+    s.kept = kept;
+    XaraReceiver *four[4] = {&s.receiver, &s.kept.slots[0].receiver, &s.kept.slots[3].receiver, &s.kept.slots[7].receiver};
+    if (size >= 7)
+        four[size - 7]->nfrag = mask % 2 == 0 ? 256 : SIZE_MAX;
+    else if (size >= 3)
+        four[size - 3]->held = mask % 2 == 0 ? 5001 : SIZE_MAX;
+    if (mask >= 1)
+        four[mask - 1]->crc_mask = 0xF1;
+    return s;
+}
+
+/* 17 comes before 9, 9 before 20 and 20 before 21, whichever state has the fault. */
+static void one_order(size_t size, size_t mask, XaraKept kept)
+{
+    static const uint8_t last[5][3] = {{0, 0, 0}, {0, 0, 0}, {21, 20, 20}, {20, 20, 20}, {20, 20, 20}};
+    const Name names[5] = {letter(2), letter(7), NAME("new"), NAME(""), NAME("ninebytes")};
+    const size_t places[5] = {2, 7, 5, 0, 0};
+    Station s = faulty(size, mask, kept);
+    for (size_t i = 0; i < 5; i++) {
+        uint8_t refusals[3];
+        for (int call = KEEP; call <= DROP; call++) {
+            uint8_t fault = fault_refusal(call, size, mask), none = last[i][call];
+            bool room = none == XARA_REFUSAL_KEPT && kept.slots[places[i]].len == 0;
+            refusals[call] = fault != 0 ? fault : room ? 0 : none;
+        }
+        each_refusal(s, names[i], refusals, places[i]);
+    }
+    closed(s);
+}
+
+/* With eight states kept, and with seven. */
+static void kept_order(void)
+{
+    Station s = keeping(XARA_KEPT);
+    XaraKept all = s.kept, less = s.kept;
+    less.slots[5] = (XaraSlot){0, {0}, {0}};
+    for (size_t i = 0; i < SIZE_FAULTS * MASK_FAULTS; i++) {
+        one_order(i % SIZE_FAULTS, i / SIZE_FAULTS, all);
+        one_order(i % SIZE_FAULTS, i / SIZE_FAULTS, less);
+    }
+    closed(s);
+}
+
+/* The largest state that may be is kept, and returned to, in every place. */
+static void largest_states(void)
+{
+    Station s = keeping(XARA_KEPT);
+    for (size_t i = 0; i < XARA_KEPT; i++) {
+        s.receiver = (XaraReceiver){5000, 255, 0xFF, XARA_MASK(7), 1, few};
+        keeps(&s, letter(i), 0, i);
+    }
+    for (size_t i = 0; i < XARA_KEPT; i++)
+        known(s, letter(i), i);
+    closed(s);
+}
+
+/* Every byte as the mask of the receiver that is handed in, and of each that is kept. */
+static void kept_masks(void)
+{
+    Station s = keeping(XARA_KEPT);
+    for (unsigned mask = 0; mask < 256; mask++) {
+        uint8_t refusal = is_mask(mask) ? 0 : XARA_REFUSAL_MASK;
+        Station one = s;
+        one.receiver.crc_mask = (uint8_t)mask;
+        each_refusal(one, letter(6), (const uint8_t[3]){refusal, 0, 0}, 6);
+        one = s;
+        one.kept.slots[mask % XARA_KEPT].receiver.crc_mask = (uint8_t)mask;
+        each_refusal(one, letter(6), (const uint8_t[3]){refusal, refusal, refusal}, 6);
+    }
+    closed(s);
+}
+
+/* A slot that is free by its length, with a name in it and with what can be no state. */
+static XaraSlot rubbish(size_t len, uint8_t overflow)
+{
+    const uint64_t most = UINT64_MAX;
+    XaraReceiver none = {SIZE_MAX, SIZE_MAX, SENTINEL, 0xF1, overflow, {most, most, most, most, most, most, most, most}};
+    return (XaraSlot){len, {'n', 'e', 't', '4', '5', '6', '7', '8'}, none};
+}
+
+/* Slots with names of no length or of more than eight bytes are free: such names are not kept, and the slots are taken in order. */
+static void free_slots(void)
+{
+    static const size_t lens[XARA_KEPT] = {0, 9, 10, 259, 65539, ((size_t)1 << 32) + 3, ((size_t)1 << 63) + 3, SIZE_MAX};
+    static const uint8_t flags[XARA_KEPT] = {0, 1, 2, 255, 128, 7, 0xFE, 16};
+    Station s = station(XARA_STORE, XARA_KEPT_STORE);
+    for (size_t i = 0; i < XARA_KEPT; i++)
+        s.kept.slots[i] = rubbish(lens[i], flags[i]);
+    unknown(s, NAME("net"), 0, 0);
+    unknown(s, NAME("net45678"), 0, 0);
+    unnamed(s, NAME(""));
+    unnamed(s, NAME("net456789"));
+    unnamed(s, NAME("net4567890"));
+    XaraKept all = s.kept;
+    for (size_t i = 0; i < XARA_KEPT; i++) {
+        s.kept = all;
+        s.kept.slots[0] = slot_of(letter(0), s.receiver);
+        s.kept.slots[i] = slot_of(NAME("net"), s.receiver);
+        known(s, NAME("net"), i);
+        unknown(s, NAME("n"), 0, i == 0 ? 1 : i == 1 ? 2 : 1);
+    }
+    closed(s);
+}
+
+/* Of two slots with one name the first counts, in every pair of places, and a free one before or between them does not. */
+static void two_of_one_name(void)
+{
+    Station s = keeping(XARA_KEPT);
+    for (size_t i = 0; i < XARA_KEPT * XARA_KEPT; i++) {
+        size_t a = i / XARA_KEPT, b = i % XARA_KEPT;
+        if (a >= b)
+            continue;
+        Station twice = s;
+        memcpy(twice.kept.slots[a].name, "same", 4);
+        memcpy(twice.kept.slots[b].name, "same", 4);
+        twice.kept.slots[a].len = twice.kept.slots[b].len = 4;
+        known(twice, NAME("same"), a);
+        drops(&twice, NAME("same"), 0, a);
+        known(twice, NAME("same"), b);
+        drops(&twice, NAME("same"), 0, b);
+        unknown(twice, NAME("same"), 0, a);
+    }
+    closed(s);
+}
+
+/* Names of zeros of one to eight bytes are eight names, and so are eight that differ in one byte, each in another one. */
+static void close_names(void)
+{
+    Station zeros = station(XARA_STORE, XARA_KEPT_STORE), bytes = station(XARA_STORE, XARA_KEPT_STORE);
+    for (size_t i = 0; i < XARA_KEPT; i++) {
+        Name changed = NAME("ABCDEFGH");
+        changed.bytes[i] ^= 0x80;
+        zeros.receiver.tallies.more = bytes.receiver.tallies.done = i;
+        unknown(zeros, (Name){i + 1, {0}}, 0, i);
+        keeps(&zeros, (Name){i + 1, {0}}, 0, i);
+        unknown(bytes, changed, 0, i);
+        keeps(&bytes, changed, 0, i);
+    }
+    for (size_t i = 0; i < XARA_KEPT; i++) {
+        Name changed = NAME("ABCDEFGH");
+        unknown(bytes, changed, XARA_REFUSAL_KEPT, 0);
+        changed.bytes[i] ^= 0x80;
+        known(zeros, (Name){i + 1, {0}}, i);
+        known(bytes, changed, i);
+    }
+    closed(zeros);
+    closed(bytes);
+}
+
+/* Bytes after a name's length are not looked at, and a keep makes them zeros. */
+static void after_names(void)
+{
+    Station s = keeping(4);
+    memcpy(s.kept.slots[1].name, "AZZZZZZZ", XARA_MAX_NAME);
+    memcpy(s.kept.slots[2].name, "AZZZZZZZ", XARA_MAX_NAME);
+    s.kept.slots[1].len = 2;
+    s.kept.slots[2].len = 7;
+    known(s, NAME("A"), 0);
+    known(s, NAME("AZ"), 1);
+    known(s, NAME("AZZZZZZ"), 2);
+    unknown(s, NAME("AZZ"), 0, 4);
+    unknown(s, (Name){2, {'A'}}, 0, 4);
+    unknown(s, NAME("AZZZZZZZ"), 0, 4);
+    closed(s);
+}
+
+/* Every byte as a flag of the receiver that is handed in, of one that is named, and of one beside it. */
+static void kept_flags(void)
+{
+    Station s = keeping(XARA_KEPT);
+    for (unsigned flag = 0; flag < 256; flag++) {
+        s.receiver.overflow = (uint8_t)(flag * 7);
+        s.kept.slots[flag % XARA_KEPT].receiver.overflow = (uint8_t)flag;
+        s.kept.slots[(flag + 3) % XARA_KEPT].receiver.overflow = (uint8_t)(flag * 5);
+        known(s, letter(flag % XARA_KEPT), flag % XARA_KEPT);
+        unknown(s, NAME("new"), XARA_REFUSAL_KEPT, 0);
+    }
+    closed(s);
+}
+
+/* Each tally alone that is full does not hinder a keep or a return, and is full again after it. */
+static void kept_tallies(void)
+{
+    Station s = keeping(XARA_KEPT);
+    for (size_t i = 0; i < TALLIES; i++) {
+        XaraReceiver full = with_tally(s.receiver, i, UINT64_MAX);
+        s.receiver = full;
+        keeps(&s, letter(i), 0, i);
+        s.receiver = xara_receiver_new(XARA_MASK_FM).receiver;
+        returns(&s, letter(i), 0, i);
+        expect(same(s.receiver, full), "full receiver", i);
+        refused(s.receiver, XARA_STORE, 5, XARA_REFUSAL_TALLY);
+        s.receiver = with_tally(full, i, i);
+    }
+    closed(s);
+}
+
+/* The name may stand in the caller's own kept states, also where the answer goes to these. */
+static void own_names(void)
+{
+    Station s = keeping(XARA_KEPT);
+    for (size_t i = 0; i < XARA_KEPT; i++) {
+        XaraKeeping a = {.kept = s.kept};
+        XaraSlot *slot = &a.kept.slots[i];
+        XaraKept kept = with_slot(s.kept, i, slot_of(letter(i), s.receiver)), less = with_slot(s.kept, i, (XaraSlot){0, {0}, {0}});
+        XaraFresh back = xara_kept_return(a.kept, s.store, XARA_STORE, s.lent, XARA_KEPT_STORE, slot->name, slot->len);
+        expect(fresh(back, 0, slot->receiver), "return by its own name", i);
+        a = xara_kept_keep(a.kept, s.receiver, s.store, XARA_STORE, s.lent, XARA_KEPT_STORE, slot->name, slot->len);
+        expect(kept_so(a, 0, i, &kept), "keep by its own name", i);
+        a = xara_kept_drop(a.kept, s.lent, XARA_KEPT_STORE, slot->name, slot->len);
+        expect(kept_so(a, 0, i, &less), "drop by its own name", i);
+    }
+    closed(s);
+}
+
+/* A message on each of eight channels, a fragment of each in turn: each is left and returned to, and all are completed. */
+static void eight_channels(void)
+{
+    Station s = station(XARA_STORE, XARA_KEPT_STORE);
+    for (size_t i = 0; i < 3 * XARA_KEPT; i++) {
+        size_t k = i / XARA_KEPT, channel = i % XARA_KEPT;
+        uint8_t mask = masks[channel % MASKS].mask, message[6] = {0x40, 1, 2, 3, 4, (uint8_t)channel}, f[3];
+        xara_fragment(message, sizeof message, 3, mask, k, f, sizeof f);
+        s.receiver = xara_receiver_new(mask).receiver;
+        if (k > 0)
+            returns(&s, letter(channel), 0, channel);
+        XaraPushed a = xara_receiver_join(s.receiver, s.store, XARA_STORE, f, sizeof f, sizeof f);
+        s.receiver = a.receiver;
+        expect(a.kind == (k < 2 ? XARA_MORE : XARA_DONE) && a.receiver.tallies.offered == k + 1, "channel", channel);
+        expect(k < 2 || (a.length == sizeof message && memcmp(s.store, message, sizeof message) == 0), "its message", channel);
+        keeps(&s, letter(channel), 0, channel);
+    }
+    closed(s);
+}
+
+static void kept_edges(void)
+{
+    kept_example();
+    kept_places();
+    kept_lengths();
+    kept_order();
+    largest_states();
+    kept_masks();
+    free_slots();
+    two_of_one_name();
+    close_names();
+    after_names();
+    kept_flags();
+    kept_tallies();
+    own_names();
+    eight_channels();
+}
+
 int main(void)
 {
     coding_rooms();
@@ -1539,6 +2110,7 @@ int main(void)
     whole_messages();
     mask_journeys();
     tally_edges();
+    kept_edges();
     printf("%lu compared, %lu differ\n", calls, wrong);
     return wrong != 0;
 }

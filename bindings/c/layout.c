@@ -5,6 +5,8 @@
 
 _Static_assert(sizeof(XaraTallies) == 64 && sizeof(XaraReceiver) == 88, "the sizes that the header tells");
 _Static_assert(sizeof(XaraFresh) == 96 && sizeof(XaraPushed) == 104, "the sizes that the header tells");
+_Static_assert(sizeof(XaraSlot) == 104 && sizeof(XaraKept) == 832 && sizeof(XaraKeeping) == 848, "the sizes that the header tells");
+_Static_assert(XARA_KEPT_STORE == XARA_KEPT * XARA_STORE, "a store for each kept state");
 _Static_assert(offsetof(XaraReceiver, tallies) == 24 && offsetof(XaraPushed, cause) == 2, "after the fields that stood there");
 
 #define SIZE(type) printf(#type " %zu %zu\n", sizeof(type), _Alignof(type))
@@ -32,6 +34,12 @@ static void arguments(void)
     PLACE(XaraReceiver, crc_mask);
     PLACE(XaraReceiver, overflow);
     PLACE(XaraReceiver, tallies);
+    SIZE(XaraSlot);
+    PLACE(XaraSlot, len);
+    PLACE(XaraSlot, name);
+    PLACE(XaraSlot, receiver);
+    SIZE(XaraKept);
+    PLACE(XaraKept, slots);
 }
 
 static void answers(void)
@@ -50,6 +58,11 @@ static void answers(void)
     PLACE(XaraPushed, cause);
     PLACE(XaraPushed, length);
     PLACE(XaraPushed, receiver);
+    SIZE(XaraKeeping);
+    PLACE(XaraKeeping, ok);
+    PLACE(XaraKeeping, refusal);
+    PLACE(XaraKeeping, place);
+    PLACE(XaraKeeping, kept);
     SIZE(XaraEncoded);
     PLACE(XaraEncoded, ok);
     PLACE(XaraEncoded, refusal);

@@ -6,7 +6,7 @@
  *
  * Compile a program with the header of the archive that it is linked with. XaraReceiver, XaraFresh and XaraPushed cross by value
  * and are larger here than in an archive without tallies: a program that was compiled with the header of such an archive must be
- * compiled again with this one.
+ * compiled again with this one. XaraSlot, XaraKept and XaraKeeping, which hold receivers, cross by value too.
  *
  * A report travels one way:
  *
@@ -19,19 +19,22 @@
  * and 11: a path WIDE2-2 comes out as WIDE2-10. xara_decode_mended takes them for a binary number and hands the calls back as
  * they were sent. All else is the same in both readings.
  *
+ * A channel may be left with a message half heard: xara_kept_keep keeps the receiver under a name, and xara_kept_return hands it
+ * back later, so that the message can be completed. XaraKept says how.
+ *
  * What every call keeps to:
  * - It ends on every input with an answer or with a refusal, whose number is one of enum xara_refusal.
- * - Where it refuses, it changes no lent byte, and a receiver comes back as it was.
+ * - Where it refuses, it changes no lent byte, and a receiver and the kept states come back as they were.
  * - Where it answers, it writes the bytes of the answer to the front of the lent output, and leaves all bytes after them as they
- *   were. It never writes to an input.
+ *   were. xara_kept_keep alone writes to another place of the bytes that it is lent, and tells which. No call writes to an input.
  * - It sets every field of the struct that it returns. A field that has no meaning in that answer is 0, and each field below says
  *   when. A flag is 0 or 1 as a byte. Nothing is promised of the padding between the fields.
  *
  * What the caller keeps to, since nothing can test it:
- * - A pointer and the length after it are so many bytes that may be read, and for an output or a store also written. A pointer
- *   is never NULL, even where the length is 0: any address will do then.
- * - An output or a store overlaps no other buffer of the same call.
- * - Nobody else writes an input, or reads or writes an output or a store, while the call runs.
+ * - A pointer and the length after it are so many bytes that may be read, and where the pointer is not to const also written. A
+ *   pointer is never NULL, even where the length is 0: any address will do then.
+ * - Bytes that a call may write overlap no other buffer of the same call. Those that it only reads may overlap one another.
+ * - Nobody else writes what the call reads, or reads or writes what it may write, while the call runs.
  * - A size_t has 8 bytes.
  *
  * What is promised, with a proof, about a message that xara_fragment accepted: the receiver answers XARA_MORE to each of its
@@ -83,6 +86,11 @@ extern "C" {
 #define XARA_MAX_FIELD 512
 #define XARA_FRAME_EXTRA 3 /* a frame has field + 3 bytes */
 #define XARA_MAX_FRAME (XARA_MAX_FIELD + XARA_FRAME_EXTRA)
+#define XARA_KEPT_STORE 40000 /* the stores of the kept states: exactly so many, 5,000 for each */
+#define XARA_MAX_NAME 8       /* the name of a kept state: 1 to 8 */
+
+/* The most states that are kept. */
+#define XARA_KEPT 8
 
 /*
  * The masks: which bits of the check byte are the CRC's. They are the top 1 to 7 bits of a byte. More check bits find more
@@ -118,7 +126,7 @@ enum xara_aprs_type {
     XARA_THIRD_PARTY = 6
 };
 
-/* Why a call refuses. Nothing is changed then. The numbers 18 to 26 are not in use. */
+/* Why a call refuses. Nothing is changed then. The numbers 18, 19 and 22 to 26 are not in use. */
 enum xara_refusal {
     XARA_REFUSAL_COMMAND = 1,     /* the command is not 0, 1 or 2 */
     XARA_REFUSAL_TOO_LONG = 2,    /* data over 4,999 bytes, or a message over 5,000 */
@@ -136,7 +144,10 @@ enum xara_refusal {
     XARA_REFUSAL_FRAGMENT = 14,   /* the fragment to frame is empty or longer than the field */
     XARA_REFUSAL_MARKER = 15,     /* the marker is 14 */
     XARA_REFUSAL_CONTROL = 16,    /* the reply is over 3 or the hint over 7 */
-    XARA_REFUSAL_STATE = 17,      /* the store has not 5,000 bytes, or the state holds over 5,000 or counts over 255 */
+    XARA_REFUSAL_STATE = 17,      /* the store has not 5,000 bytes, the kept ones not 40,000, or a state holds over 5,000 or
+                                     counts over 255 */
+    XARA_REFUSAL_NAME = 20,       /* the name has not 1 to 8 bytes, or is not kept */
+    XARA_REFUSAL_KEPT = 21,       /* eight states are kept already */
     XARA_REFUSAL_TALLY = 27       /* a tally is already the largest 64-bit number */
 };
 
@@ -217,7 +228,7 @@ typedef struct XaraReceiver {
     XaraTallies tallies;
 } XaraReceiver;
 
-/* 96 bytes. A new receiver, or a refusal's number. */
+/* 96 bytes. A receiver that is new or was kept, or a refusal's number. */
 typedef struct XaraFresh {
     bool ok;               /* 1 where it answers, 0 where it refuses */
     uint8_t refusal;       /* enum xara_refusal; 0 where ok */
@@ -232,6 +243,61 @@ typedef struct XaraPushed {
     size_t length;         /* the message's length where kind is XARA_DONE, else 0 */
     XaraReceiver receiver; /* the very one that came in where kind is XARA_REFUSED; else with overflow 0 or 1 */
 } XaraPushed;
+
+/*
+ * 104 bytes. A slot: a receiver's state that is kept under a name. Where len is not 1 to 8 the slot is free, and may hold anything
+ * in its other fields: no call refuses for them.
+ *
+ * A name is any bytes, and its length counts: "A" and "A" with a zero after it are two names.
+ */
+typedef struct XaraSlot {
+    size_t len;                  /* bytes of the name, 1 to 8; any other number where the slot is free, 0 where a call made it so */
+    uint8_t name[XARA_MAX_NAME]; /* its first len bytes are the name; those after it are not looked at, and a keep sets them to 0 */
+    XaraReceiver receiver;       /* as it was when it was kept, with its own mask and its own tallies */
+} XaraSlot;
+
+/*
+ * 832 bytes. Up to eight receivers that are kept under names, each with its store: that of slots[i] is the 5,000 bytes from
+ * 5000 * i on of 40,000 that the caller lends. The two go together: start with xara_kept_none and lent bytes of any content, keep
+ * the XaraKept that each keep and drop hands back, lend the same bytes again, and write to neither between calls. A channel is
+ * left and returned to so:
+ *
+ *   static uint8_t store[XARA_STORE], lent[XARA_KEPT_STORE];
+ *   static const uint8_t net[] = {'n', 'e', 't'};
+ *   XaraKept kept = xara_kept_none();
+ *   XaraReceiver receiver = xara_receiver_new(XARA_MASK_HF).receiver;
+ *
+ *   // Frames are pushed, and the channel is left in the middle of a message. Where left.ok is 0, it could not be kept.
+ *   XaraKeeping left = xara_kept_keep(kept, receiver, store, sizeof store, lent, sizeof lent, net, sizeof net);
+ *   kept = left.kept;
+ *
+ *   // Another channel is heard, with the same store.
+ *   receiver = xara_receiver_new(XARA_MASK_FM).receiver;
+ *
+ *   // Back to the first one: the next push goes on with its message.
+ *   XaraFresh back = xara_kept_return(kept, store, sizeof store, lent, sizeof lent, net, sizeof net);
+ *   if (back.ok)
+ *       receiver = back.receiver;
+ *
+ * What is promised, with a proof: where the kept states are handed on as they were left, and nobody else writes the lent bytes or
+ * the receiver's store, every push and join after a return answers as if no call had been made between the keeping and the return.
+ * An unfinished message can be completed, and what was counted between the two is gone from the tallies.
+ *
+ * A caller may make up any XaraKept. Of two slots with one name the first counts. Where a slot that is not free holds what can be
+ * no state, every call but xara_kept_none refuses with XARA_REFUSAL_STATE or XARA_REFUSAL_MASK, whichever name it is asked for.
+ * Tallies are not tested: a state with a full one may be kept and returned to, and refuses pushes and joins as before.
+ */
+typedef struct XaraKept {
+    XaraSlot slots[XARA_KEPT];
+} XaraKept;
+
+/* 848 bytes. What a keep or a drop answers, and the kept states from here on. */
+typedef struct XaraKeeping {
+    bool ok;         /* 1 where it answers, 0 where it refuses */
+    uint8_t refusal; /* enum xara_refusal; 0 where ok */
+    size_t place;    /* 0 to 7: slots[place] is the slot that was written or made free; 0 where not ok */
+    XaraKept kept;   /* the very one that came in where not ok; else with overflow 0 or 1 in every slot, a free one too */
+} XaraKeeping;
 
 /* 16 bytes. The data's type and the message's length, or a refusal's number. */
 typedef struct XaraEncoded {
@@ -307,6 +373,45 @@ XaraPushed xara_receiver_join(XaraReceiver receiver, uint8_t *store, size_t stor
  */
 XaraReceiver xara_receiver_reset(XaraReceiver receiver);
 
+/* Nothing is kept: every slot is free, with 0 in all its fields. Refuses nothing. */
+XaraKept xara_kept_none(void);
+
+/*
+ * Keeps a receiver with its store under a name. A name that is kept already is replaced in its place, a new one goes to the first
+ * slot that is free. The whole store is copied, all 5,000 bytes, to the lent bytes from 5000 * place on; no other lent byte is
+ * written. Answers the place. The receiver and its store stay as they are, and may be pushed to further.
+ *
+ * slots[place] has the name, with zeros after it, and the receiver with overflow 0 or 1. All other slots come back as they came,
+ * with overflow 0 or 1.
+ *
+ * The store has exactly XARA_STORE bytes, the lent bytes are exactly XARA_KEPT_STORE. The name may stand in the caller's own
+ * XaraKept, since that crosses by value.
+ * Refuses with STATE, MASK, NAME, KEPT, in this order; with the first two for the receiver and for every kept state. A name that is
+ * kept already is never refused with KEPT.
+ */
+XaraKeeping xara_kept_keep(XaraKept kept, XaraReceiver receiver, const uint8_t *store, size_t store_len, uint8_t *lent,
+                           size_t lent_len, const uint8_t *name, size_t name_len);
+
+/*
+ * The receiver that was kept under a name, with overflow 0 or 1, and its whole store to the store that is lent, all 5,000 bytes.
+ * Whatever receiver went with that store before is lost, unless it was kept. The name stays kept: the same state may be returned to
+ * again.
+ *
+ * The store has exactly XARA_STORE bytes, the lent bytes are exactly XARA_KEPT_STORE and are only read.
+ * Refuses with STATE, MASK, NAME, in this order; with the first two for every kept state.
+ */
+XaraFresh xara_kept_return(XaraKept kept, uint8_t *store, size_t store_len, const uint8_t *lent, size_t lent_len,
+                           const uint8_t *name, size_t name_len);
+
+/*
+ * Makes the slot of a name free: 0 in all its fields, as in xara_kept_none. Answers its place. All other slots come back as they
+ * came, with overflow 0 or 1. No lent byte is written: the bytes of the store stay until another state is kept in this place.
+ *
+ * The lent bytes are exactly XARA_KEPT_STORE.
+ * Refuses with STATE, MASK, NAME, in this order; with the first two for every kept state.
+ */
+XaraKeeping xara_kept_drop(XaraKept kept, const uint8_t *lent, size_t lent_len, const uint8_t *name, size_t name_len);
+
 /*
  * The message that data is coded to, to the front of out; answers its length, at most 5,000, and the data's type.
  * Refuses with COMMAND, TOO_LONG, then SHORT, BAD_CALL or FORMAT, whichever is met first, then OUTPUT.
@@ -374,7 +479,11 @@ static inline const char *xara_refusal_text(uint8_t refusal)
     case XARA_REFUSAL_CONTROL:
         return "the reply is over 3 or the hint over 7";
     case XARA_REFUSAL_STATE:
-        return "the store has not 5,000 bytes, or the state holds over 5,000 or counts over 255";
+        return "the store has not 5,000 bytes, the kept ones not 40,000, or a state holds over 5,000 or counts over 255";
+    case XARA_REFUSAL_NAME:
+        return "the name has not 1 to 8 bytes, or is not kept";
+    case XARA_REFUSAL_KEPT:
+        return "eight states are kept already";
     case XARA_REFUSAL_TALLY:
         return "a tally is already the largest 64-bit number";
     default:

@@ -27,8 +27,9 @@
 //!
 //! What every call keeps to:
 //! - It ends on every input with an answer or a [`Refusal`], and never panics on an input.
-//! - Where it refuses, no lent byte and nothing in a receiver is changed.
+//! - Where it refuses, no lent byte, nothing in a receiver and nothing that is kept is changed.
 //! - Where it answers, the bytes of the answer are the first of the lent output, and all after them are as they were.
+//!   [`Kept::keep`] alone writes to another place of the bytes that it is lent, and tells which.
 //!
 //! # What is promised, and what the air can still do
 //!
@@ -93,6 +94,11 @@
 //! # Ok::<(), xara::Refusal>(())
 //! ```
 //!
+//! # Leaving a channel
+//!
+//! [`Channels`] keeps up to eight receivers under names, each with its store, so that a channel can be left with a message half
+//! heard and be returned to.
+//!
 //! # Two readings
 //!
 //! A message may be read in two ways, and the receiving side alone chooses: the coder and all that goes on the air are the same
@@ -102,14 +108,15 @@
 //!
 //! # Buffers
 //!
-//! [`Encoder`], [`Decoder`] and [`Reassembler`] own buffers that are large enough for every answer. The functions [`encode`],
-//! [`decode`], [`decode_as`], [`fragment`], [`build_frame`] and the calls of [`State`] write to buffers that are lent, and
-//! allocate nothing.
+//! [`Encoder`], [`Decoder`], [`Reassembler`] and [`Channels`] own buffers that are large enough for every answer. The functions
+//! [`encode`], [`decode`], [`decode_as`], [`fragment`], [`build_frame`] and the calls of [`State`] and of [`Kept`] write to buffers
+//! that are lent, and allocate nothing.
 #![deny(unsafe_code)]
 #![warn(missing_docs)]
 
 mod codec;
 mod frame;
+mod kept;
 mod raw;
 mod receiver;
 mod refusal;
@@ -121,6 +128,7 @@ mod words;
 
 pub use codec::{Buffer, Decoder, Encoder, Reading, Summary, decode, decode_as, encode, summary};
 pub use frame::{Control, Frame, Frames, TERMINATOR, build_frame};
+pub use kept::{Channels, KEPT, KEPT_STORE, Kept, MAX_NAME, Slot};
 pub use receiver::{Heard, RX_BUFFER, RX_MAX_FRAGMENTS, Reassembler, State};
 pub use refusal::Refusal;
 pub use sender::{Fragment, Fragments, MAX_FIELD, MIN_FIELD, count_for_field, fragment, fragments};

@@ -62,6 +62,29 @@ pub struct XaraPushed {
 }
 
 #[repr(C)]
+#[derive(Clone, Copy, Debug, PartialEq, Eq)]
+pub struct XaraSlot {
+    pub len: usize,
+    pub name: [u8; 8],
+    pub receiver: XaraReceiver,
+}
+
+#[repr(C)]
+#[derive(Clone, Copy, Debug, PartialEq, Eq)]
+pub struct XaraKept {
+    pub slots: [XaraSlot; 8],
+}
+
+#[repr(C)]
+#[derive(Clone, Copy)]
+pub struct XaraKeeping {
+    pub ok: u8,
+    pub refusal: u8,
+    pub place: usize,
+    pub kept: XaraKept,
+}
+
+#[repr(C)]
 #[derive(Clone, Copy)]
 pub struct XaraEncoded {
     pub ok: u8,
@@ -131,6 +154,33 @@ mod linked {
             n: usize,
         ) -> XaraPushed;
         pub safe fn xara_receiver_reset(receiver: XaraReceiver) -> XaraReceiver;
+        pub safe fn xara_kept_none() -> XaraKept;
+        pub fn xara_kept_keep(
+            kept: XaraKept,
+            receiver: XaraReceiver,
+            store: *const u8,
+            store_len: usize,
+            lent: *mut u8,
+            lent_len: usize,
+            name: *const u8,
+            name_len: usize,
+        ) -> XaraKeeping;
+        pub fn xara_kept_return(
+            kept: XaraKept,
+            store: *mut u8,
+            store_len: usize,
+            lent: *const u8,
+            lent_len: usize,
+            name: *const u8,
+            name_len: usize,
+        ) -> XaraFresh;
+        pub fn xara_kept_drop(
+            kept: XaraKept,
+            lent: *const u8,
+            lent_len: usize,
+            name: *const u8,
+            name_len: usize,
+        ) -> XaraKeeping;
         pub fn xara_encode(command: u8, data: *const u8, data_len: usize, out: *mut u8, out_len: usize) -> XaraEncoded;
         pub fn xara_summary(command: u8, data: *const u8, data_len: usize) -> XaraSummary;
         pub fn xara_decode(message: *const u8, message_len: usize, out: *mut u8, out_len: usize) -> XaraDecoded;
@@ -138,7 +188,7 @@ mod linked {
     }
 }
 
-pub use linked::{xara_count_for_field, xara_receiver_new, xara_receiver_reset};
+pub use linked::{xara_count_for_field, xara_kept_none, xara_receiver_new, xara_receiver_reset};
 
 pub fn xara_crc16_genibus(data: &[u8]) -> u16 {
     // SAFETY: the slice is lent whole for reading.
@@ -167,6 +217,30 @@ pub fn xara_receiver_join(receiver: XaraReceiver, store: &mut [u8], f: &[u8], n:
     let (lent, room) = (store.as_mut_ptr(), store.len());
     // SAFETY: the slices are lent whole, one for reading and one for writing, and do not overlap; any state is taken.
     unsafe { linked::xara_receiver_join(receiver, lent, room, f.as_ptr(), f.len(), n) }
+}
+
+pub fn xara_kept_keep(
+    kept: XaraKept,
+    receiver: XaraReceiver,
+    store: &[u8],
+    lent: &mut [u8],
+    name: &[u8],
+) -> XaraKeeping {
+    let (to, room) = (lent.as_mut_ptr(), lent.len());
+    let (from, held) = (store.as_ptr(), store.len());
+    // SAFETY: the slices are lent whole, two for reading and one for writing, which overlaps neither; any states are taken.
+    unsafe { linked::xara_kept_keep(kept, receiver, from, held, to, room, name.as_ptr(), name.len()) }
+}
+
+pub fn xara_kept_return(kept: XaraKept, store: &mut [u8], lent: &[u8], name: &[u8]) -> XaraFresh {
+    let (to, room) = (store.as_mut_ptr(), store.len());
+    // SAFETY: the slices are lent whole, two for reading and one for writing, which overlaps neither; any states are taken.
+    unsafe { linked::xara_kept_return(kept, to, room, lent.as_ptr(), lent.len(), name.as_ptr(), name.len()) }
+}
+
+pub fn xara_kept_drop(kept: XaraKept, lent: &[u8], name: &[u8]) -> XaraKeeping {
+    // SAFETY: the slices are lent whole for reading; any states are taken.
+    unsafe { linked::xara_kept_drop(kept, lent.as_ptr(), lent.len(), name.as_ptr(), name.len()) }
 }
 
 pub fn xara_encode(command: u8, data: &[u8], out: &mut [u8]) -> XaraEncoded {

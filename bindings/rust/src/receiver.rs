@@ -92,7 +92,7 @@ impl State {
         *self = raw::xara_receiver_reset(self.lent()).into();
     }
 
-    fn lent(self) -> XaraReceiver {
+    pub(crate) fn lent(self) -> XaraReceiver {
         let State { held, nfrag, count, crc_mask, overflow, tallies, cause: _ } = self;
         XaraReceiver { held, nfrag, count, crc_mask, overflow: u8::from(overflow), tallies: tallies.into() }
     }
@@ -132,8 +132,8 @@ impl From<XaraReceiver> for State {
 /// ```
 #[derive(Clone)]
 pub struct Reassembler {
-    state: State,
-    store: Box<[u8]>,
+    pub(crate) state: State,
+    pub(crate) store: Box<[u8]>,
 }
 
 impl Reassembler {

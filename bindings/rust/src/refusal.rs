@@ -3,7 +3,7 @@
 use std::error::Error;
 use std::fmt;
 
-/// Why a call refuses. Where it does, no lent byte and nothing in a receiver is changed.
+/// Why a call refuses. Where it does, no lent byte, nothing in a receiver and nothing that is kept is changed.
 ///
 /// The numbers are those of the library and of `xara.h`.
 ///
@@ -50,8 +50,13 @@ pub enum Refusal {
     Marker,
     /// 16: the reply is over 3 or the hint over 7.
     Control,
-    /// 17: the store has not 5,000 bytes, or the state holds over 5,000 or counts over 255.
+    /// 17: the store has not [`RX_BUFFER`](crate::RX_BUFFER) bytes, the kept ones not [`KEPT_STORE`](crate::KEPT_STORE), or a state
+    /// holds over [`RX_BUFFER`](crate::RX_BUFFER) or counts over [`RX_MAX_FRAGMENTS`](crate::RX_MAX_FRAGMENTS).
     State,
+    /// 20: the name has not 1 to [`MAX_NAME`](crate::MAX_NAME) bytes, or is not kept.
+    Name,
+    /// 21: [`KEPT`](crate::KEPT) states are kept already.
+    Kept,
     /// 27: a tally is already the largest 64-bit number.
     Tally,
     /// A number of an archive that is newer than this crate.
@@ -59,7 +64,7 @@ pub enum Refusal {
 }
 
 /// The refusals with their numbers, which leave gaps.
-const NUMBERED: [(u8, Refusal); 18] = [
+const NUMBERED: [(u8, Refusal); 20] = [
     (1, Refusal::Command),
     (2, Refusal::TooLong),
     (3, Refusal::Short),
@@ -77,6 +82,8 @@ const NUMBERED: [(u8, Refusal); 18] = [
     (15, Refusal::Marker),
     (16, Refusal::Control),
     (17, Refusal::State),
+    (20, Refusal::Name),
+    (21, Refusal::Kept),
     (27, Refusal::Tally),
 ];
 
@@ -115,7 +122,11 @@ impl fmt::Display for Refusal {
             Refusal::Fragment => "the fragment to frame is empty or longer than the field",
             Refusal::Marker => "the marker is 14",
             Refusal::Control => "the reply is over 3 or the hint over 7",
-            Refusal::State => "the store has not 5,000 bytes, or the state holds over 5,000 or counts over 255",
+            Refusal::State => {
+                "the store has not 5,000 bytes, the kept ones not 40,000, or a state holds over 5,000 or counts over 255"
+            }
+            Refusal::Name => "the name has not 1 to 8 bytes, or is not kept",
+            Refusal::Kept => "eight states are kept already",
             Refusal::Tally => "a tally is already the largest 64-bit number",
             Refusal::Other(number) => return write!(f, "refused with {number}"),
         };

@@ -1,24 +1,14 @@
 //! Where fragments went: what counts as what, that the tallies leave nothing out, and tallies up to the largest 64-bit number.
 
+mod calls;
+
+use calls::{Call, FIRST, LAST, MESSAGE, Numbers, Said, mapped, said, tallies};
 use xara::{Cause, Heard, Mask, RX_BUFFER, RX_MAX_FRAGMENTS, Reassembler, Refusal, State, Tallies};
 
 const SENTINEL: u8 = 0xA5;
-/// The two frames of document 01's message at field 5, and the second with a byte changed.
-const FIRST: [u8; 8] = [0xC0, 0x40, 0xAC, 0xB7, 0x01, 0x01, 0xA3, 0x8C];
-const LAST: [u8; 8] = [0x40, 0x00, 0x10, 0x40, 0x14, 0x00, 0x52, 0x42];
+/// The last frame of document 01's message with a byte changed.
 const DAMAGED: [u8; 8] = [0x40, 0x00, 0x10, 0x41, 0x14, 0x00, 0x52, 0x42];
-const MESSAGE: [u8; 7] = [0x40, 0xAC, 0xB7, 0x01, 0x00, 0x10, 0x40];
 const FRESH: State = State::new(Mask::Hf);
-
-#[derive(Clone, Debug)]
-enum Call {
-    Push(Vec<u8>, usize),
-    Join(Vec<u8>, usize),
-    Reset,
-}
-
-/// What a call answers. A reset answers nothing.
-type Said = Option<Result<Heard<Vec<u8>>, Refusal>>;
 
 fn push(frame: &[u8], field: usize) -> Call {
     Call::Push(frame.to_vec(), field)
@@ -26,31 +16,6 @@ fn push(frame: &[u8], field: usize) -> Call {
 
 fn join(f: &[u8], n: usize) -> Call {
     Call::Join(f.to_vec(), n)
-}
-
-fn owned(heard: Heard<&[u8]>) -> Heard<Vec<u8>> {
-    match heard {
-        Heard::Dropped => Heard::Dropped,
-        Heard::More => Heard::More,
-        Heard::Done(message) => Heard::Done(message.to_vec()),
-    }
-}
-
-fn said(receiver: &mut Reassembler, call: &Call) -> Said {
-    match call {
-        Call::Push(frame, field) => Some(receiver.push(frame, *field).map(owned)),
-        Call::Join(f, n) => Some(receiver.join(f, *n).map(owned)),
-        Call::Reset => {
-            receiver.reset();
-            None
-        }
-    }
-}
-
-/// Offered, more, done, and dropped by wrong length, no fragment, overflow, limit, check.
-fn tallies(all: [u64; 8]) -> Tallies {
-    let [offered, more, done, wrong_length, no_fragment, overflow, limit, check] = all;
-    Tallies { offered, more, done, wrong_length, no_fragment, overflow, limit, check }
 }
 
 /// Calls one after the other from a new receiver on: the answer, the cause and the tallies after each.
@@ -83,52 +48,6 @@ fn worked_examples_hold() {
     for (k, (call, answer, cause, counted)) in worked_examples().into_iter().enumerate() {
         assert_eq!(said(&mut receiver, &call), answer, "call {k}");
         assert_eq!((receiver.cause(), receiver.tallies()), (cause, tallies(counted)), "call {k}");
-    }
-}
-
-/// Xorshift of 64 bits, the same numbers in each run.
-struct Numbers(u64);
-
-impl Numbers {
-    fn next(&mut self, below: usize) -> usize {
-        self.0 ^= self.0 << 13;
-        self.0 ^= self.0 >> 7;
-        self.0 ^= self.0 << 17;
-        (self.0 >> 32) as usize % below
-    }
-
-    fn once_in(&mut self, times: usize) -> bool {
-        self.next(times) == 0
-    }
-
-    /// So many bytes. The first is below 80 once in so many times.
-    fn bytes(&mut self, length: usize, ends: usize) -> Vec<u8> {
-        let mut bytes: Vec<u8> = (0..length).map(|_| self.next(256) as u8).collect();
-        if let Some(first) = bytes.first_mut() {
-            *first = if self.once_in(ends) { *first & 0x7F } else { *first | 0x80 };
-        }
-        bytes
-    }
-
-    /// A frame at a field from 3 on, sometimes at 2, which is refused, and sometimes of another length.
-    fn push(&mut self, most: usize, ends: usize) -> Call {
-        let field = if self.once_in(10) { 2 } else { 3 + self.next(most) };
-        let length = if self.once_in(10) { self.next(most) } else { field + 3 };
-        Call::Push(self.bytes(length, ends), field)
-    }
-
-    /// A fragment of less than so many bytes; sometimes n is 0 or more than there are.
-    fn join(&mut self, most: usize, ends: usize) -> Call {
-        let length = self.next(most);
-        let n = if self.once_in(10) { self.next(2) * (length + 1) } else { 1 + self.next(length.max(1)) };
-        Call::Join(self.bytes(length, ends), n)
-    }
-
-    fn call(&mut self, most: usize, ends: usize) -> Call {
-        if self.once_in(4 * ends) {
-            return Call::Reset;
-        }
-        if self.once_in(2) { self.push(most, ends) } else { self.join(most, ends) }
     }
 }
 
@@ -181,11 +100,7 @@ fn expected(receiver: &Reassembler, call: &Call) -> (Option<Result<Heard<()>, Re
 
 /// An answer without its message.
 fn kind<T>(heard: Heard<T>) -> Heard<()> {
-    match heard {
-        Heard::Dropped => Heard::Dropped,
-        Heard::More => Heard::More,
-        Heard::Done(_) => Heard::Done(()),
-    }
+    mapped(heard, |_| ())
 }
 
 /// The count with one more answer.

@@ -1,7 +1,7 @@
 //! Commands, masks and flags that are any byte.
 
-use crate::raw::{self, XaraControl, XaraPushed, XaraReceiver, XaraTallies};
-use crate::{Cause, Command, Mask, RX_BUFFER, Refusal};
+use crate::raw::{self, XaraControl, XaraKeeping, XaraKept, XaraPushed, XaraReceiver, XaraSlot, XaraTallies};
+use crate::{Cause, Command, KEPT_STORE, Mask, RX_BUFFER, Refusal};
 
 /// A receiver that holds nothing and has counted nothing.
 const ZEROS: XaraReceiver = XaraReceiver {
@@ -118,13 +118,56 @@ fn every_overflow_comes_back_from_a_refusal() {
     assert_eq!(store, [0xA5; RX_BUFFER]);
 }
 
+/// A slot that is free, as calls leave it.
+const FREE: XaraSlot = XaraSlot { len: 0, name: [0; 8], receiver: ZEROS };
+
+fn kept_shown(a: XaraKeeping) -> (u8, u8, usize, XaraKept) {
+    (a.ok, a.refusal, a.place, a.kept)
+}
+
+#[test]
+fn nothing_kept_is_all_zeros() {
+    assert_eq!(raw::xara_kept_none().slots, [FREE; 8]);
+}
+
+/// Kept states whose slots at 0, named A, and at a place, named B or free, have this flag.
+fn flagged(place: usize, len: usize, overflow: u8) -> XaraKept {
+    let receiver = XaraReceiver { held: 3, nfrag: 1, count: 9, crc_mask: 0xF0, overflow, ..ZEROS };
+    let mut slots = [FREE; 8];
+    slots[0] = XaraSlot { len: 1, name: *b"A\0\0\0\0\0\0\0", receiver };
+    slots[place] = XaraSlot { len, name: *b"B\0\0\0\0\0\0\0", receiver };
+    XaraKept { slots }
+}
+
+/// Any byte but 0 is an overflow of a slot, a free one too: it comes back as 1 from a call that is accepted, and as it came from
+/// one that is refused.
+#[test]
+fn every_byte_is_a_flag_of_a_slot() {
+    let (mut lent, mut store) = (vec![0xA5; KEPT_STORE], [0x5A; RX_BUFFER]);
+    for (overflow, place) in (0..=255).flat_map(|overflow| (1..8).map(move |place| (overflow, place))) {
+        for len in [1, 0, 9, usize::MAX] {
+            let (came, mut after) = (flagged(place, len, overflow), flagged(place, len, u8::from(overflow != 0)));
+            let receiver = came.slots[0].receiver;
+            assert_eq!(kept_shown(raw::xara_kept_keep(came, receiver, &store, &mut lent, b"")), (0, 20, 0, came));
+            assert_eq!(kept_shown(raw::xara_kept_drop(came, &lent, b"C")), (0, 20, 0, came));
+            assert_eq!(kept_shown(raw::xara_kept_keep(came, receiver, &store, &mut lent, b"A")), (1, 0, 0, after));
+            let a = raw::xara_kept_return(came, &mut store, &lent, b"A");
+            assert_eq!((a.ok, a.refusal, a.receiver), (1, 0, after.slots[0].receiver));
+            after.slots[0] = FREE;
+            assert_eq!(kept_shown(raw::xara_kept_drop(came, &lent, b"A")), (1, 0, 0, after));
+            let a = raw::xara_kept_return(came, &mut store, &lent, b"C");
+            assert_eq!((a.ok, a.refusal, a.receiver), (0, 20, ZEROS));
+        }
+    }
+}
+
 /// A number that has a name of its own comes back, and so does every other.
 #[test]
 fn numbers_and_names() {
     for number in 0..=255 {
         let refusal = Refusal::from_number(number);
         assert_eq!(refusal.number(), number);
-        assert_eq!(matches!(refusal, Refusal::Other(_)), !matches!(number, 1..=17 | 27));
+        assert_eq!(matches!(refusal, Refusal::Other(_)), !matches!(number, 1..=17 | 20 | 21 | 27));
         assert!(!refusal.to_string().is_empty());
         let cause = Cause::from_number(number);
         assert_eq!(cause.map(Cause::number), (1..=5).contains(&number).then_some(number));

@@ -1,7 +1,8 @@
 //! The structs against those of xara.h, by a C program that prints its own.
 
 use crate::raw::{
-    XaraAnswer, XaraControl, XaraDecoded, XaraEncoded, XaraFresh, XaraPushed, XaraReceiver, XaraSummary, XaraTallies,
+    XaraAnswer, XaraControl, XaraDecoded, XaraEncoded, XaraFresh, XaraKeeping, XaraKept, XaraPushed, XaraReceiver,
+    XaraSlot, XaraSummary, XaraTallies,
 };
 use std::mem::{align_of, offset_of, size_of};
 use std::path::Path;
@@ -35,9 +36,12 @@ fn ours() -> String {
         lines!(XaraControl: reply, compressed, hint),
         lines!(XaraTallies: offered, more, done, wrong_length, no_fragment, overflow, limit, check),
         lines!(XaraReceiver: held, nfrag, count, crc_mask, overflow, tallies),
+        lines!(XaraSlot: len, name, receiver),
+        lines!(XaraKept: slots),
         lines!(XaraAnswer: ok, refusal, value),
         lines!(XaraFresh: ok, refusal, receiver),
         lines!(XaraPushed: kind, refusal, cause, length, receiver),
+        lines!(XaraKeeping: ok, refusal, place, kept),
         lines!(XaraEncoded: ok, refusal, aprs_type, length),
         lines!(XaraSummary: ok, refusal, aprs_type, ui, digis),
         lines!(XaraDecoded: ok, refusal, command, length),
