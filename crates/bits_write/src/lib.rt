@@ -28,7 +28,7 @@ pub fn byte(out: &mut [u8], at: usize, x: u8) -> usize
 }
 
 // Bytes from a place on, all of which fit.
-fn copy_all(out: &mut [u8], at: usize, src: &[u8])
+pub fn copy_all(out: &mut [u8], at: usize, src: &[u8])
     requires { ⌜ at + length (now src) ≤ length (now out) ⌝ }
     ensures { λ _. ⌜ now (out .exit) ≡ sets (now (out .entry)) at (now (src .entry)) ⌝ }
 {

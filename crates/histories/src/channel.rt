@@ -9,7 +9,6 @@ use crate::start;
 use crate::store;
 use kept::Keeping;
 use kept::Kept;
-use kept::Named;
 use kept::Returned;
 use lines::answer::Outcome;
 use lines::answer::same_count;
@@ -202,18 +201,17 @@ fn listening(listener: Listener, answer: &[u8], receiver: Reassembler) -> Turn {
 
 // What came of a name that was to be kept or dropped.
 fn told(receiver: Reassembler, text: &[u8], keeping: Keeping) -> Turn {
-    let answer = keeping.answer;
     let kept = keeping.kept;
     Turn {
-        outcome: same_named(text, answer),
+        outcome: same_named(text, keeping.ok, keeping.refusal, keeping.place),
         listener: Listener { receiver, kept },
     }
 }
 
 // We have the place of a name, or a refusal.
-fn same_named(text: &[u8], ours: Named) -> Outcome {
-    match ours {
-        Named::Refused(n) => same_refusal(text, n),
-        Named::At(i) => same_count(text, i),
+fn same_named(text: &[u8], ok: bool, refusal: u8, place: usize) -> Outcome {
+    if ok {
+        return same_count(text, place);
     }
+    same_refusal(text, refusal)
 }

@@ -50,3 +50,7 @@ sets-whole l vs e =
     sets-eq vs l 0 (omega arith)
     ∙ ap (λ (r : List ℕ). vs ++ r) (drop-of-length-le l {i = 0 + length vs} (omega arith))
     ∙ append-nil vs
+
+-- what is stored so is what was given
+pub stored-whole : {r ws : List ℕ} (l vs : List ℕ) → r ≡ sets l 0 vs → vs ≡ ws → length ws ≡ length l → r ≡ ws
+stored-whole l vs e q size = e ∙ ap (sets l 0) q ∙ sets-whole l _ size

@@ -4,8 +4,9 @@ ghost use Prim.Native.Nat.{_*_, _<_, _≤_, max};
 ghost use lib.ListN.{length, take};
 ghost use lib.Seq.{sets};
 ghost use Rattle.laws.specs.Text.{same};
-ghost use Rattle.kept.specs.Keep.{nameOk, isUnder, placeUnder, placeFor, placed, slotOf, freeSlot, noneKept, withSlot, startOf, partOf, sizeRefusal, refusalIn, keptRefusal, lentRefusal, keepOf, returnOf, dropOf};
-ghost use Rattle.kept.specs.Told.{placeIn, namedOf, keepAfter, returnAfter, dropAfter};
+ghost use Rattle.refusals.specs.Outcome.{refused};
+ghost use Rattle.kept.specs.Keep.{nameOk, isUnder, firstFrom, placeUnder, placeFor, placed, slotOf, freeSlot, noneKept, startOf, partOf, sizeRefusal, refusalIn, keptRefusal, lentRefusal, keepOf, returnOf, dropOf};
+ghost use Rattle.kept.specs.Told.{placeIn, isPlace, hasOtherFlag, toSlot, toKept, toNamed, toKeepingWith, toDropped, returnAfter};
 use receiver::Reassembler;
 use receiver::Stored;
 use receiver::Tallies;
@@ -24,15 +25,19 @@ pub struct Kept {
     pub slots: [Slot; 8],
 }
 
-// A refusal's number, or the place of a name.
-pub enum Named {
-    Refused(u8),
-    At(usize),
+// ok with the place of a name, or a refusal's number.
+struct Named {
+    ok: bool,
+    refusal: u8,
+    place: usize,
 }
 
-// An answer with the kept states as the call leaves them.
+// The same, and the kept states as the call leaves them.
+#[repr(C)]
 pub struct Keeping {
-    pub answer: Named,
+    pub ok: bool,
+    pub refusal: u8,
+    pub place: usize,
     pub kept: Kept,
 }
 
@@ -121,7 +126,7 @@ impl Slot {
     {
         let mut eight = [0u8; 8];
         let len = name.len();
-        bits_write::copy(&mut eight, 0, name);
+        bits_write::copy_all(&mut eight, 0, name);
         Slot {
             len,
             name: eight,
@@ -154,6 +159,20 @@ impl Slot {
         }
         0
     }
+
+    // The same with a flag that is 0 or 1.
+    fn shown(self) -> Slot
+        ensures { λ r. ⌜ r ≡ toSlot self ⌝ }
+    {
+        let len = self.len;
+        let name = self.name;
+        let stored = self.receiver;
+        Slot {
+            len,
+            name,
+            receiver: Stored::of(stored.receiver()),
+        }
+    }
 }
 
 // The refusal of lent bytes that are not as many as they are to be.
@@ -166,28 +185,47 @@ fn size_refusal(len: usize, size: usize) -> u8
     refusals::STATE
 }
 
-// What a call by name answers: the refusal of what was handed in or kept, 20 for a name of another length, n where it has no place.
-fn placed(code: u8, len: usize, n: u8, place: Place) -> Named
-    ensures { λ r. ⌜ namedOf r ≡ placed code len n (placeIn place) ⌝ }
+// A refusal's number.
+fn refused(refusal: u8) -> Named
+    ensures { λ r. ⌜ r ≡ toNamed (refused refusal) ⌝ }
 {
-    if code != 0 {
-        return Named::Refused(code);
-    }
-    if !name_ok(len) {
-        return Named::Refused(refusals::NAME);
-    }
-    match place {
-        Place::At(i) => Named::At(i),
-        Place::Nowhere => Named::Refused(n),
+    Named {
+        ok: false,
+        refusal,
+        place: 0,
     }
 }
 
-// A store goes to its place among the lent bytes.
+// What a call by name answers: the refusal of what was handed in or kept, 20 for a name of another length, n where it has no place.
+fn placed(code: u8, len: usize, n: u8, place: Place) -> Named
+    ensures { λ r. ⌜ r ≡ toNamed (placed code len n (placeIn place)) ⌝ }
+{
+    if code != 0 {
+        return refused(code);
+    }
+    if !name_ok(len) {
+        return refused(refusals::NAME);
+    }
+    match place {
+        Place::At(i) => Named {
+            ok: true,
+            refusal: 0,
+            place: i,
+        },
+        Place::Nowhere => refused(n),
+    }
+}
+
+// A store goes to its place among the lent bytes, by way of an array: the compiler makes one move of the two copies. Of two slices it
+// does not know that they lie apart.
 fn copy_in(lent: &mut [u8], i: usize, store: &[u8])
     requires { ⌜ (i < 8) × (length (now lent) ≡ 40000) × (length (now store) ≡ 5000) ⌝ }
     ensures { λ _. ⌜ now (lent .exit) ≡ sets (now (lent .entry)) (startOf i) (now (store .entry)) ⌝ }
 {
-    bits_write::copy(lent, i * Reassembler::RX_BUFFER, store);
+    let size = Reassembler::RX_BUFFER;
+    let mut whole = [0u8; 5000];
+    bits_write::copy_all(&mut whole, 0, &store[0..size]);
+    bits_write::copy_all(lent, i * size, &whole);
 }
 
 // And back.
@@ -197,7 +235,9 @@ fn copy_out(store: &mut [u8], lent: &[u8], i: usize)
 {
     let at = i * Reassembler::RX_BUFFER;
     let end = at + Reassembler::RX_BUFFER;
-    bits_write::copy(store, 0, &lent[at..end]);
+    let mut whole = [0u8; 5000];
+    bits_write::copy_all(&mut whole, 0, &lent[at..end]);
+    bits_write::copy_all(store, 0, &whole);
 }
 
 impl Kept {
@@ -263,29 +303,61 @@ impl Kept {
         larger(size_refusal(lent, Kept::LENT), self.refusal())
     }
 
-    // Another slot at a place.
-    fn with(self, i: usize, slot: Slot) -> Kept
-        requires { ⌜ i < 8 ⌝ }
-        ensures { λ r. ⌜ r ≡ withSlot self i slot ⌝ }
+    // Some flag is neither 0 nor 1.
+    fn has_other_flag(self) -> bool
+        ensures { λ r. ⌜ r ≡ isPlace (firstFrom hasOtherFlag 0 (self .slots)) ⌝ }
+    {
+        let mut i: usize = 0;
+        while i < Kept::SLOTS {
+            let slot = self.slots[i];
+            let stored = slot.receiver;
+            if 1 < stored.overflow {
+                return true;
+            }
+            i += 1;
+        }
+        false
+    }
+
+    // The kept states with flags that are 0 or 1.
+    fn shown(self) -> Kept
+        ensures { λ r. ⌜ r ≡ toKept self ⌝ }
     {
         let mut slots = self.slots;
-        slots[i] = slot;
+        let mut i: usize = 0;
+        while i < Kept::SLOTS {
+            let slot = slots[i];
+            slots[i] = slot.shown();
+            i += 1;
+        }
         Kept { slots }
     }
 
     // Keeps a receiver's state under a name, and its whole store in the lent bytes.
     pub fn keep(self, receiver: Reassembler, store: &[u8], lent: &mut [u8], name: &[u8]) -> Keeping
-        ensures { λ r. ⌜ keepAfter r (now (lent .exit)) ≡ keepOf self receiver (now (store .entry)) (now (lent .entry)) (now (name .entry)) ⌝ }
+        ensures { λ r. ⌜ (r, now (lent .exit)) ≡ toKeepingWith (keepOf self receiver (now (store .entry)) (now (lent .entry)) (now (name .entry))) ⌝ }
     {
+        let kept = self.lent_refusal(lent.len());
         let state = receiver.state;
-        let code = larger(state.refusal(store.len()), self.lent_refusal(lent.len()));
+        let code = larger(state.refusal(store.len()), kept);
         let answer = placed(code, name.len(), refusals::KEPT, self.place_for(name));
-        let Named::At(i) = answer else {
-            return Keeping { answer, kept: self };
-        };
-        copy_in(lent, i, store);
-        let kept = self.with(i, Slot::named(name, receiver));
-        Keeping { answer, kept }
+        let ok = answer.ok;
+        let place = answer.place;
+        let mut slots = self.slots;
+        if ok {
+            if self.has_other_flag() {
+                let shown = self.shown();
+                slots = shown.slots;
+            }
+            slots[place] = Slot::named(name, receiver);
+            copy_in(lent, place, store);
+        }
+        Keeping {
+            ok,
+            refusal: answer.refusal,
+            place,
+            kept: Kept { slots },
+        }
     }
 
     // The state that is kept under a name, and its bytes to the store. The name stays kept.
@@ -294,27 +366,38 @@ impl Kept {
     {
         let size = size_refusal(store.len(), Reassembler::RX_BUFFER);
         let code = larger(size, self.lent_refusal(lent.len()));
-        match placed(code, name.len(), refusals::NAME, self.find(name)) {
-            Named::Refused(n) => Returned::Refused(n),
-            Named::At(i) => {
-                copy_out(store, lent, i);
-                let slot = self.slots[i];
-                let stored = slot.receiver;
-                Returned::Ready(stored.receiver())
-            }
+        let answer = placed(code, name.len(), refusals::NAME, self.find(name));
+        let place = answer.place;
+        if answer.ok {
+            copy_out(store, lent, place);
+            let slot = self.slots[place];
+            let stored = slot.receiver;
+            return Returned::Ready(stored.receiver());
         }
+        Returned::Refused(answer.refusal)
     }
 
     // Makes the slot of a name free. No lent byte is written.
     pub fn drop_name(self, lent: &[u8], name: &[u8]) -> Keeping
-        ensures { λ r. ⌜ dropAfter r ≡ dropOf self (now (lent .entry)) (now (name .entry)) ⌝ }
+        ensures { λ r. ⌜ r ≡ toDropped (dropOf self (now (lent .entry)) (now (name .entry))) ⌝ }
     {
         let code = self.lent_refusal(lent.len());
         let answer = placed(code, name.len(), refusals::NAME, self.find(name));
-        let Named::At(i) = answer else {
-            return Keeping { answer, kept: self };
-        };
-        let kept = self.with(i, Slot::free());
-        Keeping { answer, kept }
+        let ok = answer.ok;
+        let place = answer.place;
+        let mut slots = self.slots;
+        if ok {
+            if self.has_other_flag() {
+                let shown = self.shown();
+                slots = shown.slots;
+            }
+            slots[place] = Slot::free();
+        }
+        Keeping {
+            ok,
+            refusal: answer.refusal,
+            place,
+            kept: Kept { slots },
+        }
     }
 }

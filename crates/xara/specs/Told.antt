@@ -2,26 +2,23 @@
 -- each case, and 0 in every field that has no meaning in that case.
 -- Assumes nothing.
 use mathlib.Core.Bool.{true, false}
-use mathlib.Core.List.{List, map}
+use mathlib.Core.List.{List}
 use Prim.Native.Nat.{ℕ}
 use Rattle.refusals.specs.Outcome.{Outcome, refused, answer, Left}
 use Rattle.frame.specs.declared.Control.{Control}
 use Rattle.receiver.specs.Join.{After, Heard, dropped, more, done}
 use Rattle.receiver.specs.Join as join
 use Rattle.receiver.specs.New.{noTallies}
-use Rattle.receiver.specs.Stored.{flag, receiverOf, storedOf}
+use Rattle.receiver.specs.Stored.{flag, storedOf}
 use Rattle.receiver.specs.Tally.{causeNumber}
 use Rattle.receiver.specs.declared.Reassembler.{Reassembler}
 use Rattle.receiver.specs.declared.Stored.{Stored}
-use Rattle.kept.specs.Keep.{KeepLeft, ReturnLeft, DropLeft}
-use Rattle.kept.specs.declared.Slot.{Slot}
-use Rattle.kept.specs.declared.Kept.{Kept}
+use Rattle.kept.specs.Keep.{ReturnLeft}
 use Rattle.kiss.specs.Codec.{Summary}
 use Rattle.xara.specs.declared.XaraAnswer.{XaraAnswer}
 use Rattle.xara.specs.declared.XaraControl.{XaraControl}
 use Rattle.xara.specs.declared.XaraFresh.{XaraFresh}
 use Rattle.xara.specs.declared.XaraPushed.{XaraPushed}
-use Rattle.xara.specs.declared.XaraKeeping.{XaraKeeping}
 use Rattle.xara.specs.declared.XaraEncoded.{XaraEncoded}
 use Rattle.xara.specs.declared.XaraSummary.{XaraSummary}
 use Rattle.xara.specs.declared.XaraDecoded.{XaraDecoded}
@@ -68,28 +65,6 @@ toPushedWith came a = (toPushed came (a .heard) (a .receiver), a .store)
 -- a receiver that is returned to beside the store afterwards
 abbrev pub toFreshWith : ReturnLeft → XaraFresh × List ℕ
 toFreshWith a = (toFresh (a .outcome), a .store)
-
--- a slot whose flag is 0 or 1
-abbrev pub toSlot : Slot → Slot
-toSlot s = record { len = s .len; name = s .name; receiver = storedOf (receiverOf (s .receiver)) }
-
--- the kept states with such slots
-abbrev pub toKept : Kept → Kept
-toKept k = record { slots = map toSlot (k .slots) }
-
--- the place of a name beside the kept states that the call leaves, with flags that are 0 or 1; or a refusal's number beside the very struct that
--- came in, which is what a refused call leaves
-abbrev pub toKeeping : Outcome ℕ → Kept → XaraKeeping
-toKeeping (refused n) left = record { ok = false; refusal = n; place = 0; kept = left }
-toKeeping (answer i) left = record { ok = true; refusal = 0; place = i; kept = toKept left }
-
--- what a keep answers, beside the lent bytes afterwards
-abbrev pub toKeepingWith : KeepLeft → XaraKeeping × List ℕ
-toKeepingWith a = (toKeeping (a .outcome) (a .kept), a .lent)
-
--- what a drop answers
-abbrev pub toDropped : DropLeft → XaraKeeping
-toDropped a = toKeeping (a .outcome) (a .kept)
 
 -- the message's length and the data's type, or a refusal's number
 abbrev pub toEncoded : Outcome (ℕ × ℕ) → XaraEncoded

@@ -14,15 +14,13 @@ ghost use Rattle.receiver.specs.Tally.{causeNumber, joinTallied, pushTallied, r
 ghost use Rattle.kiss.specs.Codec.{codeOf, summaryOf, decodeOf};
 ghost use Rattle.kiss.specs.Told.{codeInto, decodedOf, decodeInto};
 ghost use Rattle.kept.specs.Keep.{noneKept, keepOf, returnOf, dropOf};
-ghost use Rattle.kept.specs.Told.{namedOf};
-ghost use Rattle.xara.specs.Told.{controlOf, toAnswer, toAnswerWith, toFresh, toFreshWith, toPushed, toPushedWith, toSlot, toKept, toKeeping, toKeepingWith, toDropped, toEncodedWith, toSummary, toDecoded, toDecodedWith};
+ghost use Rattle.kept.specs.Told.{toKeepingWith, toDropped};
+ghost use Rattle.xara.specs.Told.{controlOf, toAnswer, toAnswerWith, toFresh, toFreshWith, toPushed, toPushedWith, toEncodedWith, toSummary, toDecoded, toDecodedWith};
 use ax25_address::classify::code;
 use frame::Control;
 use kept::Keeping;
 use kept::Kept;
-use kept::Named;
 use kept::Returned;
-use kept::Slot;
 use kiss::Decoded;
 use kiss::Encoded;
 use kiss::Summarised;
@@ -69,15 +67,6 @@ pub struct XaraPushed {
     pub cause: u8,
     pub length: usize,
     pub receiver: Stored,
-}
-
-// ok with the place of a name, or a refusal's number; and the kept states.
-#[repr(C)]
-pub struct XaraKeeping {
-    pub ok: bool,
-    pub refusal: u8,
-    pub place: usize,
-    pub kept: Kept,
 }
 
 // ok with the data's type and the message's length, or a refusal's number.
@@ -201,59 +190,6 @@ fn heard(came: Stored, pushed: Pushed) -> XaraPushed
             cause: 0,
             length,
             receiver,
-        },
-    }
-}
-
-// A slot whose flag is 0 or 1.
-fn slot_shown(slot: Slot) -> Slot
-    ensures { λ r. ⌜ r ≡ toSlot slot ⌝ }
-{
-    let len = slot.len;
-    let name = slot.name;
-    let stored = slot.receiver;
-    Slot {
-        len,
-        name,
-        receiver: Stored::of(stored.receiver()),
-    }
-}
-
-// The kept states with flags that are 0 or 1. Only what differs is stored.
-fn kept_shown(kept: Kept) -> Kept
-    ensures { λ r. ⌜ r ≡ toKept kept ⌝ }
-{
-    let mut slots = kept.slots;
-    let mut i: usize = 0;
-    while i < Kept::SLOTS {
-        let slot = slots[i];
-        let stored = slot.receiver;
-        if 1 < stored.overflow {
-            slots[i] = slot_shown(slot);
-        }
-        i += 1;
-    }
-    Kept { slots }
-}
-
-// What a keep or a drop answers. Where it refuses, the kept states are those that came in.
-fn keeping(left: Keeping) -> XaraKeeping
-    ensures { λ r. ⌜ r ≡ toKeeping (namedOf (left .answer)) (left .kept) ⌝ }
-{
-    let answer = left.answer;
-    let kept = left.kept;
-    match answer {
-        Named::Refused(refusal) => XaraKeeping {
-            ok: false,
-            refusal,
-            place: 0,
-            kept,
-        },
-        Named::At(place) => XaraKeeping {
-            ok: true,
-            refusal: 0,
-            place,
-            kept: kept_shown(kept),
         },
     }
 }
@@ -422,10 +358,10 @@ pub extern "C" fn xara_kept_keep(
     store: &[u8],
     lent: &mut [u8],
     name: &[u8],
-) -> XaraKeeping
+) -> Keeping
     ensures { λ r. ⌜ (r, now (lent .exit)) ≡ toKeepingWith (keepOf kept (receiverOf receiver) (now (store .entry)) (now (lent .entry)) (now (name .entry))) ⌝ }
 {
-    keeping(kept.keep(receiver.receiver(), store, lent, name))
+    kept.keep(receiver.receiver(), store, lent, name)
 }
 
 // The state that is kept under a name, and its bytes to the store. The name stays kept.
@@ -450,10 +386,10 @@ pub extern "C" fn xara_kept_return(
 
 // Makes the slot of a name free. No lent byte is written.
 #[no_mangle]
-pub extern "C" fn xara_kept_drop(kept: Kept, lent: &[u8], name: &[u8]) -> XaraKeeping
+pub extern "C" fn xara_kept_drop(kept: Kept, lent: &[u8], name: &[u8]) -> Keeping
     ensures { λ r. ⌜ r ≡ toDropped (dropOf kept (now (lent .entry)) (now (name .entry))) ⌝ }
 {
-    keeping(kept.drop_name(lent, name))
+    kept.drop_name(lent, name)
 }
 
 // The message that data is coded to.

@@ -11,11 +11,11 @@ use Rattle.kept.specs.declared.Slot.{Slot}
 use Rattle.kept.proofs.Slot.named.Statement.{statement}
 use Rattle.kept.proofs.Slot.named.Tie as tie
 
-slice-aggregate-copy : tie.Need-slice-aggregate-copy
-slice-aggregate-copy c = search needs
+slice-aggregate-copy-all : tie.Need-slice-aggregate-copy-all
+slice-aggregate-copy-all c = search needs
 
-copy-requires : tie.Need-copy-requires
-copy-requires c κs = search needs
+copy-all-requires : tie.Need-copy-all-requires
+copy-all-requires c κs = search needs
 
 of-requires : tie.Need-of-requires
 of-requires c κs = search needs
@@ -24,7 +24,7 @@ returns : tie.Need-returns
 returns c =
     let k = c .before .before in
     let a = k .before .before .before .args in
-    ap₂ {A = List ℕ} {B = Stored} {C = Slot} (λ l r. record { len = length (now (a .name)); name = l; receiver = r }) (k .copy .ensures .stored) (c .of .ensures)
+    ap₂ {A = List ℕ} {B = Stored} {C = Slot} (λ l r. record { len = length (now (a .name)); name = l; receiver = r }) (k .copy-all .ensures) (c .of .ensures)
 
 pub named-spec : {M : Type 1} → statement M
-named-spec = tie.close (tie.spec slice-aggregate-copy copy-requires of-requires returns)
+named-spec = tie.close (tie.spec slice-aggregate-copy-all copy-all-requires of-requires returns)

@@ -1,19 +1,18 @@
--- `xara::kept_shown` meets its contract. The flags of the first i slots are 0 or 1.
+-- `kept::Kept::shown` meets its contract. The flags of the first i slots are 0 or 1.
 -- Assumes nothing.
 use borrow.Author.Needs.{needs}
 use native.Mathlib.Omega.{arith}
 use mathlib.Core.Path.{_≡_, refl, sym, ap, ap₂, _∙_}
 use mathlib.Core.List.{List}
-use mathlib.Core.Logic.{⊎-elim}
 use Prim.Native.Nat.{_-_, _≤_}
 use lib.ListN.{length, getD, set, length-map}
 use Rattle.kept.specs.declared.Kept.{Kept}
 use Rattle.kept.specs.declared.Slot.{Slot}
+use Rattle.kept.specs.Told.{toSlot}
+use Rattle.kept.proofs.Flags.{firsts, firsts-at, firsts-set, firsts-all}
 use Rattle.kept.proofs.NoSlot.{noSlot}
-use Rattle.xara.specs.Told.{toSlot}
-use Rattle.xara.proofs.ToldLaws.{slot-same, firsts, firsts-at, firsts-set, firsts-pass, firsts-all}
-use Rattle.xara.proofs.kept_shown.Statement.{statement}
-use Rattle.xara.proofs.kept_shown.Tie as tie
+use Rattle.kept.proofs.Kept.shown.Statement.{statement}
+use Rattle.kept.proofs.Kept.shown.Tie as tie
 
 abbrev Inv-loop : tie.InvT-loop
 Inv-loop slots₀ i₀ slots i = (i ≤ 8) × (slots ≡ firsts toSlot i slots₀)
@@ -31,8 +30,8 @@ mul-slot c = search needs
 array-copy-out-slot : tie.Need-array-copy-out-slot Inv-loop μ-loop
 array-copy-out-slot c = search needs
 
-slot-shown-requires : tie.Need-slot-shown-requires Inv-loop μ-loop
-slot-shown-requires c κs = search needs
+shown-requires : tie.Need-shown-requires Inv-loop μ-loop
+shown-requires c κs = search needs
 
 mul-slots : tie.Need-mul-slots Inv-loop μ-loop
 mul-slots c = search needs
@@ -48,31 +47,26 @@ loop-less c = search needs
 
 loop-again : tie.Need-loop-again Inv-loop μ-loop
 loop-again c =
-    let l = c .before .before .before .before .before in
+    let l = c .before .before .before in
     let s = l .before .before in
-    let old = s .args .kept .slots in
+    let old = s .args .self .slots in
     let i = l .loop .i in
     let e : length old ≡ 8 = sym (length-map old _) ∙ s .good .0 .1 .1 .0 .1 .0 .1 in
     let here : getD (l .loop .slots) i noSlot ≡ getD old i noSlot = ap (λ (x : List Slot). getD x i noSlot) (l .loop .inv .1) ∙ firsts-at toSlot i old noSlot in (
       omega arith,
-      ⊎-elim
-          (λ w. w .2
-          ∙ ap₂ (λ (x : List Slot) (y : Slot). set x i y) (l .loop .inv .1) (w .1 .ensures ∙ ap toSlot here)
-          ∙ firsts-set toSlot i old noSlot (omega arith))
-          (λ w. w .1 ∙ l .loop .inv .1 ∙ firsts-pass toSlot i old noSlot (ap toSlot (sym here) ∙ slot-same (getD (l .loop .slots) i noSlot) (w .0 .left) ∙ here))
-          (c .if1 .came),
+      ap₂ (λ (x : List Slot) (y : Slot). set x i y) (l .loop .inv .1) (c .shown .ensures ∙ ap toSlot here) ∙ firsts-set toSlot i old noSlot (omega arith),
     )
 
 returns : tie.Need-returns Inv-loop μ-loop
 returns c =
     let l = c .before in
     let s = l .before .before in
-    let old = s .args .kept .slots in
+    let old = s .args .self .slots in
     let e : length old ≡ 8 = sym (length-map old _) ∙ s .good .0 .1 .1 .0 .1 .0 .1 in
     ap {A = List Slot} {B = Kept} (λ x. record { slots = x }) (l .loop .inv .1 ∙ firsts-all toSlot (l .loop .i) old (omega arith))
 
-pub kept-shown-spec : {M : Type 1} → statement M
-kept-shown-spec =
+pub shown-spec : {M : Type 1} → statement M
+shown-spec =
     tie.close
     (tie.spec
     Inv-loop
@@ -80,7 +74,7 @@ kept-shown-spec =
     loop-holds
     mul-slot
     array-copy-out-slot
-    slot-shown-requires
+    shown-requires
     mul-slots
     array-set-from-slots
     add-i

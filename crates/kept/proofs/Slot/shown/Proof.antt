@@ -1,8 +1,8 @@
--- `xara::slot_shown` meets its contract.
+-- `kept::Slot::shown` meets its contract.
 -- Assumes nothing.
 use borrow.Author.Needs.{needs}
-use Rattle.xara.proofs.slot_shown.Statement.{statement}
-use Rattle.xara.proofs.slot_shown.Tie as tie
+use Rattle.kept.proofs.Slot.shown.Statement.{statement}
+use Rattle.kept.proofs.Slot.shown.Tie as tie
 
 receiver-requires : tie.Need-receiver-requires
 receiver-requires c κs = search needs
@@ -13,5 +13,5 @@ of-requires c κs = search needs
 returns : tie.Need-returns
 returns c = rw (c .of .ensures, c .before .receiver .ensures)
 
-pub slot-shown-spec : {M : Type 1} → statement M
-slot-shown-spec = tie.close (tie.spec receiver-requires of-requires returns)
+pub shown-spec : {M : Type 1} → statement M
+shown-spec = tie.close (tie.spec receiver-requires of-requires returns)
