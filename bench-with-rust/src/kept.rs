@@ -1,6 +1,7 @@
 //! The rows of kept states. The source has no such calls: beside ours stands what a gateway would do with it, which keeps clones of
 //! its receivers in a map of names, eight at most. A clone copies the bytes that are held; ours copies the whole store of 5,000, so
-//! rows of both sizes are here. Rows `copy, ..` have the bare copy of 5,000 bytes on the source's side.
+//! rows of both sizes are here. Rows `copy, ..` have the bare copy of 5,000 bytes on the source's side, and there the answer of a
+//! keep is left where it was returned, so that the call alone is timed; in the other rows it takes the place of what was kept.
 
 use crate::inputs::{Random, message};
 use crate::receivers::{CALLS, receivers};
@@ -93,6 +94,12 @@ impl Ours {
         let answer = self.kept.keep(self.receiver, &self.store, &mut self.lent, name);
         self.kept = answer.kept;
         answer.told()
+    }
+
+    /// The answer stays where it was returned: what was kept before is kept on.
+    fn keep_alone(&mut self, name: &[u8]) -> Result<(), u8> {
+        let answer = self.kept.keep(self.receiver, &self.store, &mut self.lent, name);
+        black_box(&answer).told().map(drop)
     }
 
     fn return_to(&mut self, name: &[u8]) -> Result<(), u8> {
@@ -188,7 +195,7 @@ pub fn by_name(table: &mut Table) {
 
 /// A keep and a return beside the bare copy of a store.
 pub fn copies(table: &mut Table) {
-    let calls: [(&str, OurCall); 2] = [("copy, keep", Ours::keep), ("copy, return", Ours::return_to)];
+    let calls: [(&str, OurCall); 2] = [("copy, keep", Ours::keep_alone), ("copy, return", Ours::return_to)];
     for (what, call) in calls {
         if !table.wants(what, STORE) {
             continue;
