@@ -107,6 +107,7 @@ module _ (l : ℕ) (two : 2 ≤ l) (high : l ≤ 9) where
 -- ---- the message
 
 pub record Bounds (message : List ℕ) : Type 0 where
+  pub not-empty : 0 < length message
   pub fits : length message ≤ 5000
   pub first-low : getD message 0 0 < 0x80
 
@@ -127,7 +128,7 @@ packed-bounds : (header typ : ℕ) (o : Outcome (List Bool)) (c : Coded) → hea
 packed-bounds header typ (refused n) c h m e = absurd (answer-not (sym e))
 packed-bounds header typ (answer b) c h m e =
     let q : header ∷ pack b ≡ c .bytes = cc in
-    rw (← q) (record { fits = omega (arith, length-pack b, m b refl); first-low = h })
+    rw (← q) (record { not-empty = omega arith; fits = omega (arith, length-pack b, m b refl); first-low = h })
 
 pub four-from : {P : Type 0} (o : Option (List Bool)) (f : List Bool → Outcome Coded) (c : Coded) → orFour o f ≡ answer c → ((b : List Bool) → o ≡ some b → f b ≡ answer c → P) → P
 four-from none f c e k = absurd (answer-not (sym e))

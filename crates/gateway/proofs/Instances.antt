@@ -3,7 +3,7 @@
 -- list of six messages of all kinds, under every mask to a message in three fragments, and under 80 to one in 129. Under the mended reading it is applied
 -- to the six after two with WIDE2-2, a digipeater's call and an addressee's.
 -- Assumes nothing.
-use mathlib.Core.Path.{_≡_, refl, ap, subst}
+use mathlib.Core.Path.{_≡_, refl, subst}
 use mathlib.Core.Bool.{Bool, true, false}
 use mathlib.Core.List.{List, [], _∷_, _++_}
 use mathlib.Core.Option.{some}
@@ -13,7 +13,6 @@ use lib.ListN.{length, replicate, length-append, length-replicate, getD-replicat
 use borrow.Author.Tests.{le-ltb}
 use Rattle.laws.specs.Bits.{Bytes}
 use Rattle.laws.specs.Pick.{pick}
-use Rattle.laws.proofs.Cases.{by-le}
 use Rattle.refusals.specs.Limits.{fieldOk, topOf, maskOk}
 use Rattle.refusals.specs.Outcome.{answer}
 use Rattle.refusals.proofs.LimitLaws.{field-low, mask-top}
@@ -21,8 +20,8 @@ use Rattle.refusals.proofs.OutcomeLaws.{accepted-is}
 use Rattle.sender.specs.Send.{ceiling, countOf, fragmentOf, mostOf}
 use Rattle.sender.proofs.CountLaws.{count-pos, count-within}
 use Rattle.sender.proofs.MaskLaws.{most-three, most-few}
-use Rattle.sender.proofs.SendLaws.{Sendable, send-past, send-answer, send-accepted, fragment-single, fragment-first, fragment-suc}
-use Rattle.sender.proofs.SplitLaws.{fragment-fits}
+use Rattle.sender.proofs.SendLaws.{Sendable, send-past, send-answer, send-accepted}
+use Rattle.sender.proofs.SplitLaws.{fragment-some, fragment-fits}
 use Rattle.frame.specs.Frame.{frameOf}
 use Rattle.frame.proofs.FrameLaws.{build-accepted, build-answer}
 use Rattle.receiver.specs.Join.{more, done}
@@ -72,13 +71,6 @@ module _ (m : ℕ) (x : Sending) (a : Accepted m x) where
   message-exists c = record { source = c; sent = a .sent; frames = frames-exist }
 
 -- ---- what sender and frame ask of a message
-
-fragment-some : (message : List ℕ) (field m : ℕ) → 0 < length message → (k : ℕ) → 0 < length (fragmentOf message field m k)
-fragment-some message field m some-bytes zero =
-    by-le (length message) field
-    (λ l. omega (arith, ap length (fragment-single message field m l)))
-    (λ l. omega (arith, ap length (fragment-first message field m l)))
-fragment-some message field m some-bytes (suc k) = omega (arith, ap length (fragment-suc message field m k))
 
 -- with its controls and markers
 module _ (m : ℕ) (x : Sending) (able : Sendable (x .message) (x .field) m) where

@@ -30,8 +30,8 @@ generic-bounds : (d : List ℕ) → length d ≤ 4999 → Bounds (genericOf d)
 unfolding genericOf pick
 generic-bounds d l =
     by-test (anyHigh d)
-    (λ e. rw e (record { fits = omega arith; first-low = omega arith }))
-    (λ e. rw e (record { fits = omega (arith, length-pack (text7Bits 0 false d), length-text7 0 false d); first-low = omega arith }))
+    (λ e. rw e (record { not-empty = omega arith; fits = omega arith; first-low = omega arith }))
+    (λ e. rw e (record { not-empty = omega arith; fits = omega (arith, length-pack (text7Bits 0 false d), length-text7 0 false d); first-low = omega arith }))
 
 -- what is coded is not too long
 pub code-short : (command : ℕ) (d : List ℕ) (c : Coded) → codeOf command d ≡ answer c → length d ≤ 4999

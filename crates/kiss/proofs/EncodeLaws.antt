@@ -24,7 +24,7 @@ use Rattle.ax25.specs.Encode.{Coded, headerOf, headBits, frameBits, packed, cod
 use Rattle.ax25.proofs.SizeLaws.{three-from, four-from}
 use Rattle.kiss.specs.Codec.{codeOf}
 use Rattle.kiss.specs.Generic.{genericOf}
-use Rattle.kiss.specs.Told.{codeInto}
+use Rattle.kiss.specs.Told.{codeInto, lengthOf}
 use Rattle.kiss.proofs.DecodeLaws.{no-bytes}
 use Rattle.kiss.proofs.TellLaws.{tell-refused, tell-short, tell-fits}
 
@@ -78,6 +78,16 @@ code-type command d s f c e =
 
 not-both : {r : Part} {n m : ℕ} → r ≡ Next n → r ≡ Refused m → ⊥
 not-both e f = let z : _≡_ {A = ℕ} 0 1 = cc in omega arith
+
+-- a run codes o from s to t and answers r: what that says of the length alone
+module _ (s t : List ℕ) (r : Part) (n : ℕ) where
+  pub run-none : (o : Outcome Coded) → Codes o s t r → r ≡ Refused n → refused n ≡ lengthOf o
+  run-none (refused m) w e = cc
+  run-none (answer c) w e = absurd (not-both (w .0) e)
+
+  pub run-length : (o : Outcome Coded) → Codes o s t r → r ≡ Next n → answer n ≡ lengthOf o
+  run-length (refused m) w e = absurd (not-both e w)
+  run-length (answer c) w e = let size : n ≡ length (c .bytes) = cc in ap answer size
 
 -- the measuring run codes o, leaves x, which is nothing, and answers r
 module _ (out x : List ℕ) (r : Part) where

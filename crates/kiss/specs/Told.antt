@@ -12,6 +12,8 @@ use Rattle.ax25.specs.Encode.{Coded}
 use Rattle.kiss.specs.Codec.{Summary, Decoded}
 use Rattle.kiss.specs.declared.Encoded.{Encoded}
 use Rattle.kiss.specs.declared.Encoded.the-variants.{Refused, Bytes}
+use Rattle.kiss.specs.declared.lengths.Measured.{Measured}
+use Rattle.kiss.specs.declared.lengths.Measured.the-variants as measured
 use Rattle.kiss.specs.declared.summaries.Summarised.{Summarised}
 use Rattle.kiss.specs.declared.summaries.Summarised.the-variants as summarised
 use Rattle.kiss.specs.declared.Decoded as decoded
@@ -31,6 +33,15 @@ encodedOf (Bytes n typ) = answer (n, typeNumber typ)
 
 abbrev pub codeInto : Outcome Coded → List ℕ → Outcome (ℕ × ℕ) × List ℕ
 codeInto o out = intoWith (λ c. c .bytes) (λ c. c .typ) o out
+
+-- `coded_length`: the length alone
+abbrev pub lengthOf : Outcome Coded → Outcome ℕ
+lengthOf (refused n) = refused n
+lengthOf (answer c) = answer (length (c .bytes))
+
+abbrev pub measuredOf : Measured → Outcome ℕ
+measuredOf (measured.Refused n) = refused n
+measuredOf (measured.Length n) = answer n
 
 -- `summary`: the type, how many digipeaters, and whether control is 03 or 13
 abbrev pub summarisedOf : Summarised → Outcome Summary

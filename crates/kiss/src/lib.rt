@@ -1,7 +1,10 @@
 // Data coded and messages decoded.
 mod generic;
+mod lengths;
 mod summaries;
 
+pub use lengths::Measured;
+pub use lengths::coded_length;
 pub use summaries::Facts;
 pub use summaries::Summarised;
 pub use summaries::summary;

@@ -17,8 +17,8 @@ use Rattle.sender.proofs.FullLaws.{fragment-full, fragment-last}
 use Rattle.frame.specs.declared.Control.{Control}
 use Rattle.frame.specs.Frame.{frameOf, buildOf}
 use Rattle.frame.proofs.FrameLaws.{frame-length, build-accepted}
-use Rattle.room.specs.Room.{mostField, NotShort}
-use Rattle.room.proofs.OwnRefusals.{send-own, build-own}
+use Rattle.room.specs.Room.{mostField, isNotShort, NotShort}
+use Rattle.room.proofs.OwnRefusals.{not-short, send-own, build-own}
 
 -- a fragment has at most field bytes
 pub sent-fits : (message : List ℕ) (field mask k : ℕ) (v : List ℕ) → sendOf message field mask k ≡ answer v → (length v ≤ field) × (field ≤ mostField)
@@ -57,9 +57,9 @@ never-six o own out t (Bytes n) few e s = answer-not s
 pub fragment-answers : (message : List ℕ) (field mask k : ℕ) (out t : List ℕ) (r : Answer) → left (outcomeOf r) t ≡ into (sendOf message field mask k) out → field ≤ length out
     → NotShort (outcomeOf r)
 fragment-answers message field mask k out t r e h =
-    never-six (sendOf message field mask k) (send-own message field mask k) out t r (λ v q. omega (arith, sent-fits message field mask k v q)) e
+    never-six (sendOf message field mask k) (not-short isNotShort refl (send-own message field mask k)) out t r (λ v q. omega (arith, sent-fits message field mask k v q)) e
 
 pub frame-answers : (field : ℕ) (d : List ℕ) (control : Control) (marker : ℕ) (out t : List ℕ) (r : Answer) → left (outcomeOf r) t ≡ into (buildOf field d control marker) out
     → field + 3 ≤ length out → NotShort (outcomeOf r)
 frame-answers field d control marker out t r e h =
-    never-six (buildOf field d control marker) (build-own field d control marker) out t r (λ v q. omega (arith, framed-fits field d control marker v q)) e
+    never-six (buildOf field d control marker) (not-short isNotShort refl (build-own field d control marker)) out t r (λ v q. omega (arith, framed-fits field d control marker v q)) e

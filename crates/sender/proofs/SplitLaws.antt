@@ -211,6 +211,14 @@ split-carries (first ∷ rest) field mask low =
     (later-carried first rest field mask low h (later first rest field mask) (later-join first rest field mask low h)
     (later-count first rest field mask low h)))
 
+-- no fragment is empty, where the message is not
+pub fragment-some : (message : List ℕ) (field mask : ℕ) → 0 < length message → (k : ℕ) → 0 < length (fragmentOf message field mask k)
+fragment-some message field mask some zero =
+    by-le (length message) field
+    (λ l. omega (arith, some, ap length (fragment-single message field mask l)))
+    (λ l. omega (arith, ap length (fragment-first message field mask l)))
+fragment-some message field mask some (suc k) = omega (arith, ap length (fragment-suc message field mask k))
+
 pub fragment-fits : (message : List ℕ) (field mask : ℕ) → 3 ≤ field → (k : ℕ) → length (fragmentOf message field mask k) ≤ field
 fragment-fits message field mask low zero =
     by-le (length message) field

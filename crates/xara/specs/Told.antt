@@ -15,11 +15,13 @@ use Rattle.receiver.specs.declared.Reassembler.{Reassembler}
 use Rattle.receiver.specs.declared.Stored.{Stored}
 use Rattle.kept.specs.Keep.{ReturnLeft}
 use Rattle.kiss.specs.Codec.{Summary}
+use Rattle.preview.specs.declared.Price.{Price}
 use Rattle.xara.specs.declared.XaraAnswer.{XaraAnswer}
 use Rattle.xara.specs.declared.XaraControl.{XaraControl}
 use Rattle.xara.specs.declared.XaraFresh.{XaraFresh}
 use Rattle.xara.specs.declared.XaraPushed.{XaraPushed}
 use Rattle.xara.specs.declared.XaraEncoded.{XaraEncoded}
+use Rattle.xara.specs.declared.XaraPreview.{XaraPreview}
 use Rattle.xara.specs.declared.XaraSummary.{XaraSummary}
 use Rattle.xara.specs.declared.XaraDecoded.{XaraDecoded}
 
@@ -74,6 +76,11 @@ toEncoded (answer p) = record { ok = true; refusal = 0; «aprs_type» = p .1; le
 -- the same beside the lent output afterwards
 abbrev pub toEncodedWith : Outcome (ℕ × ℕ) × List ℕ → XaraEncoded × List ℕ
 toEncodedWith p = (toEncoded (p .0), p .1)
+
+-- the length and the count of a preview
+abbrev pub toPreview : Outcome Price → XaraPreview
+toPreview (refused n) = record { ok = false; refusal = n; length = 0; count = 0 }
+toPreview (answer p) = record { ok = true; refusal = 0; length = p .length; count = p .count }
 
 -- the type, how many digipeaters, and whether control is 03 or 13, or a refusal's number
 abbrev pub toSummary : Outcome Summary → XaraSummary

@@ -13,9 +13,10 @@ ghost use Rattle.receiver.specs.Stored.{receiverOf, storedOf};
 ghost use Rattle.receiver.specs.Tally.{causeNumber, joinTallied, pushTallied, resetTallied};
 ghost use Rattle.kiss.specs.Codec.{codeOf, summaryOf, decodeOf};
 ghost use Rattle.kiss.specs.Told.{codeInto, decodedOf, decodeInto};
+ghost use Rattle.preview.specs.Preview.{previewOf};
 ghost use Rattle.kept.specs.Keep.{noneKept, keepOf, returnOf, dropOf};
 ghost use Rattle.kept.specs.Told.{toKeepingWith, toDropped};
-ghost use Rattle.xara.specs.Told.{controlOf, toAnswer, toAnswerWith, toFresh, toFreshWith, toPushed, toPushedWith, toEncodedWith, toSummary, toDecoded, toDecodedWith};
+ghost use Rattle.xara.specs.Told.{controlOf, toAnswer, toAnswerWith, toFresh, toFreshWith, toPushed, toPushedWith, toEncodedWith, toPreview, toSummary, toDecoded, toDecodedWith};
 use ax25_address::classify::code;
 use frame::Control;
 use kept::Keeping;
@@ -24,6 +25,7 @@ use kept::Returned;
 use kiss::Decoded;
 use kiss::Encoded;
 use kiss::Summarised;
+use preview::Previewed;
 use receiver::Cause;
 use receiver::Fresh;
 use receiver::Push;
@@ -76,6 +78,15 @@ pub struct XaraEncoded {
     pub refusal: u8,
     pub aprs_type: u8,
     pub length: usize,
+}
+
+// ok with a message's length and how many fragments it takes, or a refusal's number.
+#[repr(C)]
+pub struct XaraPreview {
+    pub ok: bool,
+    pub refusal: u8,
+    pub length: usize,
+    pub count: usize,
 }
 
 // ok with a frame's type, whether control is 03 or 13 and how many digipeaters, or a refusal's number.
@@ -409,6 +420,27 @@ pub extern "C" fn xara_encode(command: u8, data: &[u8], out: &mut [u8]) -> XaraE
             refusal: 0,
             aprs_type: code(aprs_type),
             length,
+        },
+    }
+}
+
+// What data costs, before it is coded and sent.
+#[no_mangle]
+pub extern "C" fn xara_preview(command: u8, data: &[u8], field: usize, mask: u8) -> XaraPreview
+    ensures { λ r. ⌜ r ≡ toPreview (previewOf command (now («data» .entry)) field mask) ⌝ }
+{
+    match preview::preview(command, data, field, mask) {
+        Previewed::Refused(refusal) => XaraPreview {
+            ok: false,
+            refusal,
+            length: 0,
+            count: 0,
+        },
+        Previewed::Costs(price) => XaraPreview {
+            ok: true,
+            refusal: 0,
+            length: price.length,
+            count: price.count,
         },
     }
 }
