@@ -52,7 +52,7 @@ module _ (d : List ℕ) (command : ℕ) where
   unfolding readableOf
   readable-frame h = pick-false _ _ (ne-eqb command 2 h)
 
--- the first line is `done ` and the line that `send` reads back (`line-back` in send/proofs/LineLaws)
+-- the first line is `done ` and the line that `send` reads back (`line-back` in send_lines/proofs/LineLaws)
 module _ (command : ℕ) (d : List ℕ) (known : command ≤ 2) (h : bits.Bytes d) where
   first-line : before 10 (doneText command d) ≡ ascii "done " ++ spelledOf command d
   unfolding doneText

@@ -1,0 +1,4 @@
+pub mod FitLaws
+pub mod LineLaws
+pub mod PriceExamples
+pub mod PriceLaws
