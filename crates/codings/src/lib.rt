@@ -1,4 +1,4 @@
-// Lines that are a coding, a summary or a decoding.
+// Lines that are a coding, a summary, a decoding or a preview.
 use ax25_address::classify::code;
 use kiss::Decoded;
 use kiss::Encoded;
@@ -8,6 +8,8 @@ use lines::answer::Outcome;
 use lines::answer::same_marked;
 use lines::answer::same_refusal;
 use lines::answer::same_three;
+use lines::answer::same_two;
+use preview::Previewed;
 
 // encode CMD ROOM HEX ANSWER: the message of data under a command, to an output of ROOM bytes
 pub fn encode(command: u64, data: &[u8], answer: &[u8], out: &mut [u8]) -> Outcome {
@@ -30,6 +32,17 @@ pub fn summary(command: u64, data: &[u8], answer: &[u8]) -> Outcome {
 pub fn decode(message: &[u8], answer: &[u8], out: &mut [u8]) -> Outcome {
     let ours = kiss::decode(message, false, out);
     same_decoded(answer, out, ours)
+}
+
+// preview CMD FIELD MASK HEX ANSWER: the price of data under a command before they are coded and sent with a field and a mask
+pub fn preview(command: u64, size: u64, mask: u8, data: &[u8], answer: &[u8]) -> Outcome {
+    if 255 < command {
+        return Outcome::Bad;
+    }
+    same_previewed(
+        answer,
+        preview::preview(command as u8, data, size as usize, mask),
+    )
 }
 
 // We have a refusal, or a type and the first bytes of `out`.
@@ -59,5 +72,13 @@ fn same_decoded(text: &[u8], out: &[u8], ours: Decoded) -> Outcome {
     match ours {
         Decoded::Refused(n) => same_refusal(text, n),
         Decoded::Bytes(command, n) => same_marked(text, command as u64, out, n),
+    }
+}
+
+// We have a refusal, or a length and a count.
+fn same_previewed(text: &[u8], ours: Previewed) -> Outcome {
+    match ours {
+        Previewed::Refused(n) => same_refusal(text, n),
+        Previewed::Costs(price) => same_two(text, price.length as u64, price.count as u64),
     }
 }

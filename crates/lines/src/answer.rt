@@ -168,6 +168,18 @@ pub fn same_marked(text: &[u8], v: u64, out: &[u8], n: usize) -> Outcome {
     both(first, same_first(piece(text, 1, b':'), out, n))
 }
 
+// We have two numbers, where it could be a refusal.
+pub fn same_two(text: &[u8], u: u64, v: u64) -> Outcome {
+    if is_refusal(text) {
+        return Outcome::Differ;
+    }
+    if !has(text, 2) {
+        return Outcome::Bad;
+    }
+    let first = same_number(piece(text, 0, b':'), u);
+    both(first, same_number(piece(text, 1, b':'), v))
+}
+
 // We have three numbers, where it could be a refusal.
 pub fn same_three(text: &[u8], u: u64, v: u64, w: u64) -> Outcome {
     if is_refusal(text) {

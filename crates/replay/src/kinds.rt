@@ -7,6 +7,7 @@ use crate::answer::same_got;
 use crate::answer::same_taken;
 use codings::decode;
 use codings::encode;
+use codings::preview;
 use codings::summary;
 use frame::Control;
 use lines::answer::Outcome;
@@ -20,11 +21,11 @@ use lines::field::two_words;
 use texts::part::piece;
 
 // How many kinds there are.
-pub const KINDS: usize = 16;
+pub const KINDS: usize = 17;
 
 // Their names, in order.
-const NAMES: [u8; 98] =
-    *b"crc push bfi text take digits text7 val count fragment frame history encode summary decode channel";
+const NAMES: [u8; 106] =
+    *b"crc push bfi text take digits text7 val count fragment frame history encode summary decode channel preview";
 
 // Makes the call of a line again and compares the answers.
 pub fn run(kind: usize, line: &[u8]) -> Outcome {
@@ -44,7 +45,7 @@ fn numbers_of(kind: usize) -> usize
 {
     match kind {
         6 | 13 | 14 => 1,
-        3 | 4 | 5 | 10 | 12 => 2,
+        3 | 4 | 5 | 10 | 12 | 16 => 2,
         9 => 3,
         _ => 0,
     }
@@ -55,7 +56,7 @@ fn few_of(kind: usize) -> usize
     ensures { λ r. ⌜ r ≤ 4 ⌝ }
 {
     match kind {
-        9 => 1,
+        9 | 16 => 1,
         10 => 4,
         _ => 0,
     }
@@ -91,6 +92,7 @@ fn call(kind: usize, v: &[u64; 3], few: &[u8; 4], s: &[u8], answer: &[u8]) -> Ou
         10 | 12 => within(kind, v[1], v, few, s, answer),
         13 => summary(v[0], s, answer),
         14 => within(kind, v[0], v, few, s, answer),
+        16 => preview(v[0], v[1], few[0], s, answer),
         _ => Outcome::Bad,
     }
 }

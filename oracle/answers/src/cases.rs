@@ -89,7 +89,7 @@ pub fn all(r: &mut Random) -> Vec<Data> {
 }
 
 /// Every type to every kind of destination, under both commands.
-fn types() -> Vec<Data> {
+pub fn types() -> Vec<Data> {
     let mut all = Vec::new();
     for body in BODIES {
         for dest in [APRS, CQ, ("APVARA", 0), ("AP", 3), ("aprs", 0)] {

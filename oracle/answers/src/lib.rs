@@ -118,6 +118,15 @@ pub fn sent(message: &[u8], field: usize, mask: u8) -> Result<Vec<Vec<u8>>, u8> 
     Ok(split(message, field, mask))
 }
 
+/// The price of data before they are coded and sent: the length of the message and the number of its fragments (02, E3). The
+/// message and the fragments are made for that. The coder's refusals come first, then the sender's 8, 9 and 12: no coded message is empty, too long or has a
+/// first byte of 80 or more.
+pub fn preview(command: u8, data: &[u8], field: usize, mask: u8) -> Result<(usize, usize), u8> {
+    let (message, _) = encode(command, data)?;
+    let fragments = sent(&message, field, mask)?;
+    Ok((message.len(), fragments.len()))
+}
+
 /// The frame of a fragment, or the first of document 01's refusals before 6: 8, 14, 15, 16.
 pub fn framed(field: usize, data: &[u8], reply: u8, compressed: bool, hint: u8, marker: u8) -> Result<Vec<u8>, u8> {
     if !FIELDS.contains(&field) {

@@ -2,7 +2,9 @@
 
 use answers::hex::{from_hex, to_hex};
 use answers::random::Random;
-use answers::{Answer, MASKS, Receiver, State, cases, count, crc, decode, encode, frame, most, sent, split, summary};
+use answers::{
+    Answer, MASKS, Receiver, State, cases, count, crc, decode, encode, frame, most, preview, sent, split, summary,
+};
 use xara_arq::ax25::{token_decode, token_encode};
 use xara_arq::bits::{Bits, Reader};
 use xara_arq::{cq, kiss};
@@ -237,6 +239,22 @@ fn refusals() {
 
 fn bad_altitude() -> Vec<u8> {
     b"!1234.56N/01234.56W>/A=00-123".to_vec()
+}
+
+/// The coder's refusals come before the sender's, and 8 before 9 before 12.
+#[test]
+fn previews() {
+    let (plain, bad) = (bytes(FRAME), bytes("86A24040404060D6BE624040406103F041"));
+    assert_eq!(preview(0, &plain, 5, 0xF0), Ok((7, 2)));
+    assert_eq!(preview(2, &[], 3, 0xFE), Ok((2, 1)));
+    assert_eq!(preview(3, &[0; 5000], 2, 0x00), Err(1));
+    assert_eq!(preview(2, &[0; 5000], 2, 0x00), Err(2));
+    assert_eq!(preview(0, &plain[..10], 2, 0x00), Err(3));
+    assert_eq!(preview(0, &bad, 513, 0xF1), Err(4));
+    assert_eq!(preview(0, &[bytes("82A040404040609662824040406103F0"), bad_altitude()].concat(), 2, 0x00), Err(5));
+    assert_eq!([2, 513].map(|field| preview(2, &[0x80; 600], field, 0x00)), [Err(8); 2]);
+    assert_eq!([3, 512].map(|field| preview(2, &[0x80; 600], field, 0xFF)), [Err(9); 2]);
+    assert_eq!([33, 34].map(|n| preview(2, &vec![0x80; n], 3, 0xF0)), [Ok((34, 17)), Err(12)]);
 }
 
 #[test]

@@ -1,6 +1,7 @@
 //! The two programs as they are run.
 
 use answers::MASKS;
+use answers::hex::from_hex;
 use std::io::Write;
 use std::process::{Command, Stdio};
 
@@ -24,7 +25,8 @@ fn a_bad_line_is_answered_and_the_rest_goes_on() {
 #[test]
 fn every_request_is_answered() {
     let requests = b"encode 2 41\nencode 3 41\ndecode 2182\nparse 0 86A240404040609662824040406103F041\n\
-        count 6 5\nsplit 5 F0 40ACB701001040\nframe 5 0 0 0 01 40001040\nnew a F0\npush a 5 0000000000000000\n\
+        count 6 5\nsplit 5 F0 40ACB701001040\npreview 0 5 F0 86A240404040609662824040406103F041\n\
+        preview 0 2 00 86A240404040609662824040406103F041\npreview 3 2 00 -\npreview 2 3 FF -\nframe 5 0 0 0 01 40001040\nnew a F0\npush a 5 0000000000000000\n\
         join a 5 C040ACB701\nstate a\njoin a 4 40001040\nreset a\nstate a\n";
     let expected = [
         "0 2182",
@@ -33,6 +35,10 @@ fn every_request_is_answered() {
         "0 0 1",
         "2",
         "C040ACB701 40001040",
+        "7 2",
+        "refused 8",
+        "refused 1",
+        "refused 9",
         "4000104014005242",
         "ok",
         "dropped",
@@ -155,6 +161,68 @@ fn channels_are_recorded() {
     }
     for (start, end) in [("k:", "20"), ("k:", "21"), ("r:", "20"), ("x:", "20"), ("n:", "9")] {
         assert!(has(start, &format!("=refused:{end}")), "{start} {end}");
+    }
+}
+
+/// The words of each recorded preview: kind, command, field, mask, data and answer.
+fn previews(file: &str) -> Vec<Vec<&str>> {
+    file.lines().filter(|line| line.starts_with("preview ")).map(|line| line.split(' ').collect()).collect()
+}
+
+/// The worked examples of 02's request E3, at the start of their kind.
+#[test]
+fn worked_previews_are_recorded() {
+    const FRAME: &str = "86A240404040609662824040406103F041";
+    let file = recorded();
+    let [short, eight, seven, long] = [33, 34, 17, 18].map(|n| "80".repeat(n));
+    let [most, text, over] = [("80", 4_999), ("41", 4_999), ("80", 5_000)].map(|(byte, n)| byte.repeat(n));
+    let expected = [
+        ["preview", "0", "5", "F0", FRAME, "7:2"],
+        ["preview", "2", "3", "F0", "-", "2:1"],
+        ["preview", "2", "3", "F0", &short, "34:17"],
+        ["preview", "2", "3", "F0", &eight, "refused:12"],
+        ["preview", "2", "3", "F8", &seven, "18:9"],
+        ["preview", "2", "3", "F8", &long, "refused:12"],
+        ["preview", "3", "2", "00", FRAME, "refused:1"],
+        ["preview", "0", "2", "00", &FRAME[..20], "refused:3"],
+        ["preview", "0", "2", "00", FRAME, "refused:8"],
+        ["preview", "0", "3", "00", FRAME, "refused:9"],
+        ["preview", "2", "512", "F0", &most, "5000:10"],
+        ["preview", "2", "512", "F0", &text, "4376:9"],
+        ["preview", "2", "2", "00", &over, "refused:2"],
+        ["preview", "0", "513", "F1", "86A24040404060D6BE624040406103F041", "refused:4"],
+    ];
+    assert_eq!(previews(&file)[..14], expected);
+}
+
+/// The commands and types of recorded previews that have a price.
+fn priced_types(lines: &[Vec<&str>]) -> Vec<(u8, u8)> {
+    let priced = lines.iter().filter(|words| !words[5].starts_with("refused"));
+    let of = |words: &Vec<&str>| {
+        let command = words[1].parse().unwrap();
+        (command, answers::encode(command, &from_hex(words[4]).unwrap()).unwrap().1)
+    };
+    let mut types: Vec<_> = priced.map(of).collect();
+    types.sort_unstable();
+    types.dedup();
+    types
+}
+
+/// Each refusal and no other, each type under each command, and under each mask the most fragments with 12 for one byte more.
+#[test]
+fn previews_are_recorded() {
+    let file = recorded();
+    let lines = previews(&file);
+    let mut refused: Vec<u8> = lines.iter().filter_map(|w| w[5].strip_prefix("refused:")?.parse().ok()).collect();
+    refused.sort_unstable();
+    refused.dedup();
+    assert_eq!(refused, [1, 2, 3, 4, 5, 8, 9, 12]);
+    assert_eq!(priced_types(&lines), [(0, 0), (0, 1), (0, 2), (0, 3), (0, 4), (0, 6), (1, 0), (1, 1), (2, 0)]);
+    for (mask, most) in MASKS.into_iter().zip([129, 65, 33, 17, 9, 5, 3]) {
+        let (mask, longest) = (format!("{mask:02X}"), "80".repeat(2 * most - 1));
+        let has = |data: &str, answer: &str| lines.contains(&vec!["preview", "2", "3", &mask, data, answer]);
+        assert!(has(&longest, &format!("{}:{most}", 2 * most)), "{mask}");
+        assert!(has(&format!("{longest}80"), "refused:12"), "{mask}");
     }
 }
 

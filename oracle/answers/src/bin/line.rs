@@ -7,13 +7,14 @@ use std::io::{self, BufRead, Write};
 use std::str::FromStr;
 
 /// Every request with its words. Numbers are decimal, MASK, MARKER, HEX and KEPT hexadecimal.
-const REQUESTS: [(&str, &str); 15] = [
+const REQUESTS: [(&str, &str); 16] = [
     ("encode", "CMD HEX"),
     ("decode", "HEX"),
     ("parse", "CMD HEX"),
     ("crc", "HEX"),
     ("count", "TOTAL FIELD"),
     ("split", "FIELD MASK HEX"),
+    ("preview", "CMD FIELD MASK HEX"),
     ("frame", "FIELD REPLY COMPRESSED HINT MARKER HEX"),
     ("new", "NAME MASK"),
     ("push", "NAME FIELD HEX"),
@@ -48,6 +49,9 @@ fn answer(receivers: &mut Receivers, kept: &mut Kept<Receiver>, line: &[u8]) -> 
         ["crc", data] => format!("{:04X}", answers::crc(&bytes(data)?)),
         ["count", total, field] => count(number(total)?, number(field)?),
         ["split", field, mask, message] => split(size(field)?, byte(mask)?, &bytes(message)?),
+        ["preview", command, field, mask, data] => {
+            preview(number(command)?, number(field)?, byte(mask)?, &bytes(data)?)
+        }
         ["frame", field, reply, compressed, hint, marker, data] => {
             let (field, reply, compressed) = (size(field)?, number(reply)?, flag(compressed)?);
             hex::to_hex(&answers::frame(field, &bytes(data)?, reply, compressed, number(hint)?, byte(marker)?))
@@ -87,6 +91,12 @@ fn count(total: usize, field: usize) -> String {
 fn split(field: usize, mask: u8, message: &[u8]) -> String {
     let fragments: Vec<String> = answers::split(message, field, mask).iter().map(|f| hex::to_hex(f)).collect();
     if fragments.is_empty() { "none".to_string() } else { fragments.join(" ") }
+}
+
+/// The message's length and the number of its fragments. Fields and masks outside the domain are refused, not bad lines.
+fn preview(command: u8, field: usize, mask: u8, data: &[u8]) -> String {
+    let price = answers::preview(command, data, field, mask);
+    or_refused(price.map(|(length, count)| format!("{length} {count}")))
 }
 
 /// A new receiver takes the place of one with the same name.

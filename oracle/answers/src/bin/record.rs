@@ -9,8 +9,10 @@ use std::collections::VecDeque;
 const SEED: u64 = 0x239A_C292_3920_2601;
 
 /// Every kind of line in the order of the file; each function writes one kind, with numbers of its own.
-const KINDS: [fn(&mut String); 16] =
-    [crc, push, bfi, text, take, digits, text7, val, count, fragment, frame, history, encode, summary, decode, channel];
+const KINDS: [fn(&mut String); 17] = [
+    crc, push, bfi, text, take, digits, text7, val, count, fragment, frame, history, encode, summary, decode, channel,
+    preview,
+];
 
 fn main() {
     let mut out = header();
@@ -1164,6 +1166,139 @@ fn full_stores(out: &mut String, r: &mut Random) {
         c.calls.fragment(&message[..1]);
     }
     c.end(out);
+}
+
+fn preview(out: &mut String) {
+    *out += "\
+# preview CMD FIELD MASK HEX ANSWER: the price of data before they are coded under a command and sent with a field and a mask. An
+# answer is LENGTH:COUNT, how many bytes the message has and how many fragments it takes, or refused:N; the coder's refusals come
+# before the sender's, which are 8, 9 and 12. The source codes the data and cuts the message. The most fragments of each mask and
+# one more, fields and masks at the edges, two refusals at once, every type, the longest data, and drawn ones.
+";
+    let mut r = Random::new(SEED, "preview");
+    worked_previews(out);
+    for mask in MASKS {
+        for (field, byte) in [(3, 0x80), (3, 0x41), (4 + r.below(9), 0x80)] {
+            preview_limit(out, field, mask, byte);
+        }
+    }
+    preview_fields(out);
+    preview_masks(out);
+    coder_refusals(out, &mut r);
+    sender_refusals(out);
+    preview_types(out, &mut r);
+    long_previews(out);
+    longest_previews(out, &mut r);
+    drawn_previews(out, &mut r);
+}
+
+/// A frame from K1A to CQ with the text A, and one from k_1, a call that is refused.
+const PLAIN: [u8; 17] = *b"\x86\xA2\x40\x40\x40\x40\x60\x96\x62\x82\x40\x40\x40\x61\x03\xF0A";
+const BAD_CALL: [u8; 17] = *b"\x86\xA2\x40\x40\x40\x40\x60\xD6\xBE\x62\x40\x40\x40\x61\x03\xF0A";
+
+fn worked_previews(out: &mut String) {
+    let (eight, seven) = ([0x80; 5_000], [0x41; 4_999]);
+    let worked: [(u8, &[u8], usize, u8); 14] = [
+        (0, &PLAIN, 5, 0xF0),
+        (2, &[], 3, 0xF0),
+        (2, &eight[..33], 3, 0xF0),
+        (2, &eight[..34], 3, 0xF0),
+        (2, &eight[..17], 3, 0xF8),
+        (2, &eight[..18], 3, 0xF8),
+        (3, &PLAIN, 2, 0x00),
+        (0, &PLAIN[..10], 2, 0x00),
+        (0, &PLAIN, 2, 0x00),
+        (0, &PLAIN, 3, 0x00),
+        (2, &eight[..4_999], 512, 0xF0),
+        (2, &seven, 512, 0xF0),
+        (2, &eight, 2, 0x00),
+        (0, &BAD_CALL, 513, 0xF1),
+    ];
+    for (command, data, field, mask) in worked {
+        preview_line(out, command, data, field, mask);
+    }
+}
+
+/// Equal bytes: as many as take the most fragments of a mask, and one more, which is refused with 12.
+fn preview_limit(out: &mut String, field: usize, mask: u8, byte: u8) {
+    let refused = |&n: &usize| answers::preview(2, &vec![byte; n], field, mask) == Err(12);
+    let over = (0..5_000).find(refused).expect("a limit below 5,000 bytes");
+    for n in [over - 1, over] {
+        preview_line(out, 2, &vec![byte; n], field, mask);
+    }
+}
+
+/// Fields around 3 and 512, and far outside.
+fn preview_fields(out: &mut String) {
+    for field in [0, 1, 2, 3, 4, 511, 512, 513, 514, usize::MAX] {
+        preview_line(out, 0, &PLAIN, field, 0xF0);
+    }
+}
+
+/// Every mask, the bytes beside them, and some far outside.
+fn preview_masks(out: &mut String) {
+    let beside = |mask: &u8| MASKS.iter().any(|good| good.abs_diff(*mask) <= 1);
+    for mask in [0x00, 0x01, 0x0F].into_iter().chain((0..=255).filter(beside)) {
+        preview_line(out, 0, &PLAIN, 3, mask);
+    }
+}
+
+/// Each refusal of the coder but 2, with a good field and mask and with others, which the sender would refuse.
+fn coder_refusals(out: &mut String, r: &mut Random) {
+    let cases = cases::all(r);
+    for refusal in [1, 3, 4, 5] {
+        let is = |(command, data): &&(u8, Vec<u8>)| answers::encode(*command, data).err() == Some(refusal);
+        let (command, data) = cases.iter().find(is).expect("data that are refused with this number");
+        for (field, mask) in [(5, 0xF0), (2, 0xF0), (5, 0xF1), (513, 0x00)] {
+            preview_line(out, *command, data, field, mask);
+        }
+    }
+}
+
+/// Too many fragments with a bad field, a bad mask, both and none; then a bad command with data that are too short for a frame, and
+/// with too many fragments.
+fn sender_refusals(out: &mut String) {
+    for (field, mask) in [(2, 0xF0), (513, 0xFE), (3, 0xF1), (2, 0xF1), (3, 0xF0)] {
+        preview_line(out, 2, &[0x80; 600], field, mask);
+    }
+    preview_line(out, 3, &PLAIN[..10], 5, 0xF0);
+    preview_line(out, 255, &[0x80; 40], 3, 0xF0);
+}
+
+/// Of each body one frame at least, to one destination or another: the cases have seven frames of each.
+fn preview_types(out: &mut String, r: &mut Random) {
+    for (command, data) in cases::types().into_iter().step_by(6) {
+        let field = 3 + r.below(10);
+        preview_line(out, command, &data, field, r.one_of(&MASKS[..5]));
+    }
+}
+
+/// One byte, and long data around the most fragments of a mask.
+fn long_previews(out: &mut String) {
+    let under_f0 =
+        [(1, 512), (4_997, 295), (4_998, 295), (4_999, 295), (4_999, 296)].map(|(n, field)| (n, field, 0xF0));
+    for (n, field, mask) in under_f0.into_iter().chain([(4_999, 40, 0x80), (4_999, 39, 0x80)]) {
+        preview_line(out, 2, &vec![0x80; n], field, mask);
+    }
+}
+
+/// The longest data, and one byte more under every command.
+fn longest_previews(out: &mut String, r: &mut Random) {
+    for (command, data) in cases::longest(r) {
+        preview_line(out, command, &data, 512, 0xF0);
+    }
+}
+
+fn drawn_previews(out: &mut String, r: &mut Random) {
+    for (command, data) in drawn_data(r, 8) {
+        let field = 3 + r.below(10);
+        preview_line(out, command, &data, field, r.one_of(&MASKS));
+    }
+}
+
+fn preview_line(out: &mut String, command: u8, data: &[u8], field: usize, mask: u8) {
+    let answer = answers::preview(command, data, field, mask).map(|(length, count)| format!("{length}:{count}"));
+    line!(out, "preview", command, field, to_hex(&[mask]), to_hex(data), or_refused(answer));
 }
 
 fn or_refused<T: ToString>(answer: Result<T, u8>) -> String {
