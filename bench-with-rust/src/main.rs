@@ -2,6 +2,7 @@
 
 mod inputs;
 mod kept;
+mod previews;
 mod receivers;
 mod rows;
 mod table;
@@ -24,6 +25,9 @@ fn main() -> ExitCode {
     rows::types(&mut table);
     rows::calls(&mut table);
     rows::summaries(&mut table);
+    previews::codings(&mut table);
+    previews::frames(&mut table);
+    previews::refused(&mut table);
     rows::crc(&mut table);
     rows::fragments(&mut table);
     rows::frame(&mut table);

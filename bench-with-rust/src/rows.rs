@@ -1,5 +1,5 @@
 //! The rows: each call of the source beside the exported one, on the same input. Outputs of ours are made once, as a
-//! gateway holds them; the source makes its own. Those of the receiver are in receivers.rs.
+//! gateway holds them; the source makes its own. Those of the receiver are in receivers.rs, those of the preview in previews.rs.
 
 use crate::inputs::{
     Random, bad_letter, binary_frame, digipeated_frame, frame_with, long_frame, message, polled, position_frame,
@@ -14,8 +14,8 @@ use xara_arq::kiss::{self, Command, HF_CRC_MASK};
 use xara_phy::crc::crc16_genibus;
 use xara_phy::hf::frame::{Control, build_frame};
 
-const SIZES: [usize; 3] = [60, 500, 4999];
-const LONGEST: usize = 4999;
+pub const SIZES: [usize; 3] = [60, 500, 4999];
+pub const LONGEST: usize = 4999;
 /// The most bytes that a message decodes to.
 const MOST_DECODED: usize = 45_764;
 /// The receiver's store.
@@ -178,7 +178,7 @@ impl Decoding {
 }
 
 /// Information of the types that are neither Text, Binary nor a position without a time.
-const TYPES: [(&str, &[u8]); 3] = [
+pub const TYPES: [(&str, &[u8]); 3] = [
     ("time", b"@092345h4903.50N/00723.75E>/A=001234 VARA HF"),
     ("message", b":DL2XYZ-7 :ack12 on the way to the relay"),
     ("third", b"}DL2XYZ>APRS,TCPIP,DL3ABC*:!4903.50N/00723.75E>"),

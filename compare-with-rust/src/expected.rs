@@ -1,7 +1,7 @@
 //! The structs that are to be expected of a value or a refusal: 0 in every field that has no meaning then.
 
 use crate::xara::{
-    Answer, Decoded, Encoded, Fresh, Heard, Keeping, Kept, KeptSlot, Pushed, Receiver, Summary, Tallies,
+    Answer, Decoded, Encoded, Fresh, Heard, Keeping, Kept, KeptSlot, Preview, Pushed, Receiver, Summary, Tallies,
 };
 
 impl Answer {
@@ -79,6 +79,15 @@ impl Decoded {
         let (ok, refusal) = flags(&expected);
         let (length, command) = expected.unwrap_or_default();
         Decoded { ok, refusal, command, length }
+    }
+}
+
+impl Preview {
+    /// Of the message's length and the number of its fragments.
+    pub fn of(expected: Result<(usize, usize), u8>) -> Self {
+        let (ok, refusal) = flags(&expected);
+        let (length, count) = expected.unwrap_or_default();
+        Preview { ok, refusal, length, count }
     }
 }
 

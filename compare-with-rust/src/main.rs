@@ -15,6 +15,7 @@ mod masks;
 mod mended;
 mod met;
 mod names;
+mod previews;
 mod readings;
 mod receiver;
 mod rules;
@@ -95,6 +96,7 @@ fn written_down(r: &mut Random, tally: &mut Tally) {
     codings::longest(r, tally);
     codings::written_down(r, tally);
     codings::wide_calls(r, tally);
+    previews::written_down(r, tally);
 }
 
 /// Something of every kind, with fragments and frames of this field.
@@ -121,5 +123,6 @@ fn round(field: usize, r: &mut Random, tally: &mut Tally) {
     for _ in 0..400 {
         codings::coding(r, tally);
         codings::decoding(r, tally);
+        previews::drawn(field, r, tally);
     }
 }

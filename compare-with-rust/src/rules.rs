@@ -1,7 +1,8 @@
 //! Document 01's rules of the receiver on any state, also on one that no call leads to: there the source can't be asked. With them
-//! go document 02's tallies, which the source does not have at all (E12), and its kept states (E8).
+//! go document 02's tallies, which the source does not have at all (E12), its kept states (E8), and its preview (E3).
 
 pub mod kept;
+pub mod preview;
 
 use crate::lent::Input;
 use crate::xara::{Cause, Heard, Pushed, Receiver, Tallies};

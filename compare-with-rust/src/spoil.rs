@@ -3,7 +3,7 @@
 use crate::conserved::Balance;
 use crate::slots::Slots;
 use crate::tally::{KINDS, Row, same};
-use crate::xara::{Answer, Decoded, Encoded, Fresh, Keeping, Kept, Pushed, Receiver, Summary};
+use crate::xara::{Answer, Decoded, Encoded, Fresh, Keeping, Kept, Preview, Pushed, Receiver, Summary};
 use std::any::type_name;
 use std::collections::BTreeMap;
 use std::fmt::Debug;
@@ -118,6 +118,7 @@ kept_parts!(Keeping: ok, refusal, place,; kept.);
 parts!(Encoded: ok, refusal, aprs_type, length);
 parts!(Summary: ok, refusal, aprs_type, ui, digis);
 parts!(Decoded: ok, refusal, command, length);
+parts!(Preview: ok, refusal, length, count);
 
 /// A CRC.
 impl Parts for u16 {
@@ -252,6 +253,7 @@ mod tests {
         every_field(Encoded::of(Ok((7, 1))));
         every_field(Summary::of(Ok((1, 7, true))));
         every_field(Decoded::of(Err(7)));
+        every_field(Preview::of(Ok((7, 2))));
     }
 
     /// A struct with a field that is not compared.

@@ -1,6 +1,7 @@
 //! Compares what is expected with what our side did, and counts.
 
 use crate::met::{ByName, Call, Met};
+use crate::previews::Prices;
 use crate::spoil::{Parts, Spoiled};
 use crate::tallies::{self, Ends};
 use crate::xara::{Heard, Tallies};
@@ -34,11 +35,13 @@ pub enum Kind {
     DecodeMended,
     Readings,
     PlainBack,
+    Preview,
+    PreviewSent,
     Journey,
 }
 
 /// How many kinds there are.
-pub const KINDS: usize = 25;
+pub const KINDS: usize = 27;
 
 const ROWS: [&str; KINDS] = [
     "crc",
@@ -65,6 +68,8 @@ const ROWS: [&str; KINDS] = [
     "decode mended",
     "both readings",
     "plain comes back",
+    "preview",
+    "preview as sent",
     "journey",
 ];
 
@@ -117,6 +122,7 @@ pub struct Tally {
     longest: usize,
     misread: u64,
     changed: BTreeMap<Result<u8, u8>, u64>,
+    prices: Prices,
     decoded_journeys: u64,
     unchanged_journeys: u64,
     unchanged_mended: u64,
@@ -231,6 +237,11 @@ impl Tally {
         }
     }
 
+    /// Counts the prices and the refusals of previews.
+    pub fn priced(&mut self, field: usize, mask: u8, expected: Result<(usize, usize), u8>) {
+        self.prices.note(field, mask, expected);
+    }
+
     /// Counts the journeys at whose end a message is decoded, and those whose data is then what it was, in each reading.
     pub fn arrived(&mut self, original: bool, mended: bool) {
         self.decoded_journeys += 1;
@@ -239,12 +250,12 @@ impl Tally {
     }
 
     /// What a run must meet and did not: each answer in the histories, each end of each tally on made-up states, and what there is of
-    /// kept states.
+    /// kept states and of previews.
     pub fn unmet(&self) -> Vec<String> {
         let heard = tallies::NAMES.iter().zip(self.heard);
         let answers = heard.filter(|&(_, times)| times == 0).map(|(name, _)| format!("{name} in a history"));
         let ends = self.ends.unmet().map(|words| format!("{words} for each tally at 2^64 - 1"));
-        answers.chain(ends).chain(self.by_name.unmet()).collect()
+        answers.chain(ends).chain(self.by_name.unmet()).chain(self.prices.unmet()).collect()
     }
 
     pub fn compared(&self) -> u64 {
@@ -285,6 +296,7 @@ impl Tally {
             told("command", &self.changed),
             self.misread
         );
+        text += &self.prices.told();
         text + &format!(
             "journeys: {} decoded, {} unchanged, {} unchanged in the mended reading\n",
             self.decoded_journeys, self.unchanged_journeys, self.unchanged_mended

@@ -144,6 +144,15 @@ pub struct Decoded {
     pub length: usize,
 }
 
+#[repr(C)]
+#[derive(Clone, Copy, Debug, PartialEq, Eq)]
+pub struct Preview {
+    pub ok: u8,
+    pub refusal: u8,
+    pub length: usize,
+    pub count: usize,
+}
+
 unsafe extern "C" {
     fn xara_crc16_genibus(data: *const u8, data_len: usize) -> u16;
     fn xara_count_for_field(total: usize, field: usize) -> Answer;
@@ -206,6 +215,7 @@ unsafe extern "C" {
     fn xara_kept_drop(kept: Kept, lent: *const u8, lent_len: usize, name: *const u8, name_len: usize) -> Keeping;
     fn xara_encode(command: u8, data: *const u8, data_len: usize, out: *mut u8, out_len: usize) -> Encoded;
     fn xara_summary(command: u8, data: *const u8, data_len: usize) -> Summary;
+    fn xara_preview(command: u8, data: *const u8, data_len: usize, field: usize, mask: u8) -> Preview;
     fn xara_decode(message: *const u8, message_len: usize, out: *mut u8, out_len: usize) -> Decoded;
     fn xara_decode_mended(message: *const u8, message_len: usize, out: *mut u8, out_len: usize) -> Decoded;
 }
@@ -237,6 +247,11 @@ pub fn encode<'a>(command: u8, data: impl Into<Bytes<'a>>, out: &mut [u8]) -> En
 pub fn summary<'a>(command: u8, data: impl Into<Bytes<'a>>) -> Summary {
     let data = data.into();
     unsafe { xara_summary(command, data.start, data.length) }
+}
+
+pub fn preview<'a>(command: u8, data: impl Into<Bytes<'a>>, field: usize, mask: u8) -> Preview {
+    let data = data.into();
+    unsafe { xara_preview(command, data.start, data.length, field, mask) }
 }
 
 pub fn decode<'a>(message: impl Into<Bytes<'a>>, out: &mut [u8]) -> Decoded {
@@ -356,6 +371,13 @@ impl Decoded {
     /// The data's length and the command.
     pub fn told(self) -> Result<(usize, u8), u8> {
         told(self.ok, self.refusal, (self.length, self.command))
+    }
+}
+
+impl Preview {
+    /// The message's length and the number of its fragments.
+    pub fn told(self) -> Result<(usize, usize), u8> {
+        told(self.ok, self.refusal, (self.length, self.count))
     }
 }
 
