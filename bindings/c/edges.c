@@ -1,11 +1,11 @@
 /*
  * Every output length from 0 to one more than the answer's, every refusal's number, frames and fragments of every length, texts
  * with white space and the bytes beside it at their edges, every control byte, every mask with its longest messages and its worked
- * examples, the lengths of fragments, both readings of WIDE calls in every place, receiver states that no call leads to, tallies
- * up to the largest 64-bit number, and states that are kept under names, with the lent bytes of their stores. Every field of every
- * answer is looked at, flags as the bytes that they are, and every input for being unchanged. Every buffer has its exact length on
- * the heap, so that valgrind sees a byte read or written beside it. Prints how many calls were held against what is to be
- * expected; the exit status is 1 where one differs.
+ * examples, the lengths of fragments, previews against coding and sending, both readings of WIDE calls in every place, receiver
+ * states that no call leads to, tallies up to the largest 64-bit number, and states that are kept under names, with the lent bytes
+ * of their stores. Every field of every answer is looked at, flags as the bytes that they are, and every input for being
+ * unchanged. Every buffer has its exact length on the heap, so that valgrind sees a byte read or written beside it. Prints how
+ * many calls were held against what is to be expected; the exit status is 1 where one differs.
  */
 #include "xara.h"
 
@@ -88,6 +88,11 @@ static bool answered(XaraAnswer a, uint8_t refusal, size_t value)
 static bool encoded(XaraEncoded a, uint8_t refusal, uint8_t type, size_t length)
 {
     return FLAG(XaraEncoded, a, ok) == (refusal == 0) && a.refusal == refusal && a.aprs_type == type && a.length == length;
+}
+
+static bool previewed(XaraPreview a, uint8_t refusal, size_t length, size_t count)
+{
+    return FLAG(XaraPreview, a, ok) == (refusal == 0) && a.refusal == refusal && a.length == length && a.count == count;
 }
 
 static bool decoded(XaraDecoded a, uint8_t refusal, uint8_t command, size_t length)
@@ -1060,6 +1065,237 @@ static void slot_examples(void)
     sent(of_nine, 0, nine[0], 5);
     sent(of_nine, 1, nine[1], 5);
     sent(of_nine, 2, nine[2], 2);
+}
+
+/* Data under a command. */
+typedef struct {
+    uint8_t command;
+    const uint8_t *bytes;
+    size_t n;
+} Data;
+
+/* A preview at a field under a mask is refused with this; where that is 0 it answers this length and this count. */
+static void priced(Data d, size_t field, uint8_t mask, uint8_t refusal, size_t length, size_t count)
+{
+    uint8_t *lent = copied(d.bytes, d.n);
+    expect(previewed(xara_preview(d.command, lent, d.n, field, mask), refusal, length, count), "preview", d.n);
+    expect(memcmp(lent, d.bytes, d.n) == 0, "data to preview", d.n);
+    free(lent);
+}
+
+static void not_priced(Data d, size_t field, uint8_t mask, uint8_t refusal)
+{
+    priced(d, field, mask, refusal, 0, 0);
+}
+
+/* Document 01's frame, the same from k_1, and a position whose altitude has an x. */
+#define PLAIN_FRAME 17
+static const uint8_t plain_frame[PLAIN_FRAME + 1] = "\x86\xA2\x40\x40\x40\x40\x60\x96\x62\x82\x40\x40\x40\x61\x03\xF0\x41";
+static const uint8_t no_call[PLAIN_FRAME + 1] = "\x86\xA2\x40\x40\x40\x40\x60\xD6\xBE\x62\x40\x40\x40\x61\x03\xF0\x41";
+#define NO_FORM 45
+static const uint8_t no_form[NO_FORM + 1] = "\x82\xA0\xA4\xA6\x40\x40\x60\x96\x62\x82\x40\x40\x40\x61\x03\xF0"
+                                            "!4903.50N/00723.75E>/A=00x234";
+
+/* Answers: the frame, nothing, and bytes of 80 and of 41 up to the most. */
+static void preview_answers(void)
+{
+    uint8_t high[XARA_MAX_DATA], low[XARA_MAX_DATA];
+    memset(high, 0x80, sizeof high);
+    memset(low, 0x41, sizeof low);
+    priced((Data){XARA_AX25, plain_frame, PLAIN_FRAME}, 5, XARA_MASK_HF, 0, 7, 2);
+    priced((Data){XARA_GENERIC, high, 0}, 3, XARA_MASK_HF, 0, 2, 1);
+    priced((Data){XARA_GENERIC, high, 33}, 3, XARA_MASK_HF, 0, 34, 17);
+    not_priced((Data){XARA_GENERIC, high, 34}, 3, XARA_MASK_HF, XARA_REFUSAL_COUNT);
+    priced((Data){XARA_GENERIC, high, 17}, 3, XARA_MASK_FM, 0, 18, 9);
+    not_priced((Data){XARA_GENERIC, high, 18}, 3, XARA_MASK_FM, XARA_REFUSAL_COUNT);
+    priced((Data){XARA_GENERIC, high, XARA_MAX_DATA}, 512, XARA_MASK_HF, 0, 5000, 10);
+    priced((Data){XARA_GENERIC, low, XARA_MAX_DATA}, 512, XARA_MASK_HF, 0, 4376, 9);
+}
+
+/* Refusals, each with what would be refused after it. */
+static void preview_refusals(void)
+{
+    static const uint8_t long_data[XARA_MAX_DATA + 1] = {0x80};
+    not_priced((Data){3, plain_frame, PLAIN_FRAME}, 2, 0x00, XARA_REFUSAL_COMMAND);
+    not_priced((Data){3, long_data, sizeof long_data}, 2, 0x00, XARA_REFUSAL_COMMAND);
+    not_priced((Data){XARA_GENERIC, long_data, sizeof long_data}, 2, 0x00, XARA_REFUSAL_TOO_LONG);
+    not_priced((Data){XARA_AX25, plain_frame, 10}, 2, 0x00, XARA_REFUSAL_SHORT);
+    not_priced((Data){XARA_AX25, no_call, PLAIN_FRAME}, 513, 0xF1, XARA_REFUSAL_BAD_CALL);
+    not_priced((Data){XARA_AX25, no_form, NO_FORM}, 2, 0x00, XARA_REFUSAL_FORMAT);
+    not_priced((Data){XARA_AX25, plain_frame, PLAIN_FRAME}, 2, 0x00, XARA_REFUSAL_FIELD);
+    not_priced((Data){XARA_AX25, plain_frame, PLAIN_FRAME}, 3, 0x00, XARA_REFUSAL_MASK);
+    not_priced((Data){XARA_AX25, plain_frame, PLAIN_FRAME}, 3, XARA_MASK(7), XARA_REFUSAL_COUNT);
+    for (unsigned command = 3; command < 256; command++)
+        not_priced((Data){(uint8_t)command, plain_frame, PLAIN_FRAME}, 5, XARA_MASK_HF, XARA_REFUSAL_COMMAND);
+}
+
+/* How many fragments a message of so many bytes takes. */
+static size_t count_of(size_t n, size_t field)
+{
+    return n <= field ? 1 : (n - 1) / (field - 1) + 1;
+}
+
+/* The refusal of a message that was coded to so many bytes: the field's, then the mask's, then that of the count. */
+static uint8_t sender_refusal(size_t length, size_t field, uint8_t mask)
+{
+    if (field < 3 || field > 512)
+        return XARA_REFUSAL_FIELD;
+    if (!is_mask(mask))
+        return XARA_REFUSAL_MASK;
+    return count_of(length, field) > 257u - mask ? XARA_REFUSAL_COUNT : 0;
+}
+
+/* Data that the coder refuses with this, or codes to so many bytes, at fields around the limits under every byte as the mask. */
+static void every_mask(Data d, uint8_t refusal, size_t length)
+{
+    static const size_t fields[] = {0, 1, 2, 3, 4, 5, 511, 512, 513, SIZE_MAX};
+    uint8_t *lent = copied(d.bytes, d.n);
+    for (size_t i = 0; i < 256 * sizeof fields / sizeof *fields; i++) {
+        size_t field = fields[i / 256];
+        uint8_t mask = (uint8_t)i, first = refusal != 0 ? refusal : sender_refusal(length, field, mask);
+        XaraPreview a = xara_preview(d.command, lent, d.n, field, mask);
+        expect(previewed(a, first, first == 0 ? length : 0, first == 0 ? count_of(length, field) : 0), "preview in order", i);
+    }
+    expect(memcmp(lent, d.bytes, d.n) == 0, "data to preview in order", d.n);
+    free(lent);
+}
+
+/* The first refusal of any two: each of the coder's is met before the sender's, and all in their order. */
+static void preview_order(void)
+{
+    static const uint8_t commands[] = {3, 4, 128, 255};
+    uint8_t both[XARA_MAX_DATA + 1] = {0}, form[XARA_MAX_DATA + 1] = {0}, high[XARA_MAX_DATA];
+    memcpy(both, no_form, NO_FORM);
+    memcpy(form, no_form, NO_FORM);
+    both[8] = 0xBE; /* a letter without a code before the wrong form */
+    memset(high, 0x80, sizeof high);
+    for (size_t i = 0; i < sizeof commands; i++) {
+        every_mask((Data){commands[i], both, sizeof both}, XARA_REFUSAL_COMMAND, 0);
+        every_mask((Data){commands[i], both, 15}, XARA_REFUSAL_COMMAND, 0);
+        every_mask((Data){commands[i], both, 16}, XARA_REFUSAL_COMMAND, 0);
+        every_mask((Data){commands[i], form, NO_FORM}, XARA_REFUSAL_COMMAND, 0);
+        every_mask((Data){commands[i], plain_frame, PLAIN_FRAME}, XARA_REFUSAL_COMMAND, 0);
+    }
+    every_mask((Data){XARA_AX25, both, sizeof both}, XARA_REFUSAL_TOO_LONG, 0);
+    every_mask((Data){XARA_AX25, form, sizeof form}, XARA_REFUSAL_TOO_LONG, 0);
+    every_mask((Data){XARA_AX25_LONG, both, sizeof both}, XARA_REFUSAL_TOO_LONG, 0);
+    every_mask((Data){XARA_GENERIC, both, sizeof both}, XARA_REFUSAL_TOO_LONG, 0);
+    every_mask((Data){XARA_AX25, both, 15}, XARA_REFUSAL_SHORT, 0);
+    every_mask((Data){XARA_AX25_LONG, both, 0}, XARA_REFUSAL_SHORT, 0);
+    every_mask((Data){XARA_AX25, both, NO_FORM}, XARA_REFUSAL_BAD_CALL, 0);
+    every_mask((Data){XARA_AX25, both, XARA_MAX_DATA}, XARA_REFUSAL_BAD_CALL, 0);
+    every_mask((Data){XARA_AX25, form, NO_FORM}, XARA_REFUSAL_FORMAT, 0);
+    every_mask((Data){XARA_AX25, form, XARA_MAX_DATA}, XARA_REFUSAL_FORMAT, 0);
+    every_mask((Data){XARA_AX25, plain_frame, PLAIN_FRAME}, 0, 7);
+    every_mask((Data){XARA_GENERIC, high, 0}, 0, 2);
+    every_mask((Data){XARA_GENERIC, high, 512}, 0, 513);
+    every_mask((Data){XARA_GENERIC, high, XARA_MAX_DATA}, 0, XARA_MAX_MESSAGE);
+}
+
+/* Under each mask the longest message at some fields: it has the most fragments, or 5,000 bytes. A byte more is refused. */
+static void preview_limits(void)
+{
+    static const size_t fields[] = {3, 4, 40, 511, 512};
+    uint8_t high[XARA_MAX_DATA + 1];
+    memset(high, 0x80, sizeof high);
+    for (size_t i = 0; i < 5 * MASKS; i++) {
+        uint8_t mask = masks[i / 5].mask;
+        size_t field = fields[i % 5], most = masks[i / 5].most, room = most * (field - 1);
+        bool all = room > XARA_MAX_MESSAGE;
+        size_t longest = all ? XARA_MAX_MESSAGE : room, count = all ? count_of(longest, field) : most;
+        priced((Data){XARA_GENERIC, high, longest - 1}, field, mask, 0, longest, count);
+        not_priced((Data){XARA_GENERIC, high, longest}, field, mask, all ? XARA_REFUSAL_TOO_LONG : XARA_REFUSAL_COUNT);
+    }
+}
+
+/* Every field up to one over the largest, for messages with a byte less than, as many as and a byte more than the largest. */
+static void preview_fields(void)
+{
+    uint8_t high[XARA_MAX_FIELD];
+    memset(high, 0x80, sizeof high);
+    for (size_t field = 0; field <= XARA_MAX_FIELD + 1; field++) {
+        for (size_t n = XARA_MAX_FIELD - 2; n <= XARA_MAX_FIELD; n++) {
+            uint8_t refusal = sender_refusal(n + 1, field, XARA_MASK(1));
+            bool ok = refusal == 0;
+            priced((Data){XARA_GENERIC, high, n}, field, XARA_MASK(1), refusal, ok ? n + 1 : 0, ok ? count_of(n + 1, field) : 0);
+        }
+    }
+}
+
+/* A preview answers what coding into 5,000 bytes and then sending fragment 0 into 512 answers. */
+static void as_coded_and_sent(Data d, size_t field, uint8_t mask)
+{
+    uint8_t *lent = copied(d.bytes, d.n), *message = filled(XARA_MAX_MESSAGE), *out = filled(XARA_MAX_FIELD);
+    XaraEncoded coded = xara_encode(d.command, lent, d.n, message, XARA_MAX_MESSAGE);
+    uint8_t refusal = coded.refusal;
+    size_t count = 0;
+    if (coded.ok) {
+        refusal = xara_fragment(message, coded.length, field, mask, 0, out, XARA_MAX_FIELD).refusal;
+        count = xara_count_for_field(coded.length, field).value;
+    }
+    bool ok = refusal == 0;
+    priced(d, field, mask, refusal, ok ? coded.length : 0, ok ? count : 0);
+    free(lent);
+    free(message);
+    free(out);
+}
+
+/* Data under each command and one that there is not, at some fields and under some masks. */
+static void each_price(const uint8_t *bytes, size_t n)
+{
+    static const size_t fields[] = {2, 3, 10, 512};
+    static const uint8_t some[] = {0x00, XARA_MASK(1), XARA_MASK_HF, XARA_MASK(7)};
+    for (uint8_t command = 0; command <= 3; command++)
+        for (size_t i = 0; i < 16; i++)
+            as_coded_and_sent((Data){command, bytes, n}, fields[i / 4], some[i % 4]);
+}
+
+/* Reports of every type, cut short anywhere, and any bytes of every length to 300. */
+static void preview_data(void)
+{
+    static const char *const reports[] = {
+        "K1A>CQ:A",
+        "K1A-1>CQ,WIDE2-2,WIDE1-1*:any text",
+        "K1A>APRS,WIDE1-1*,WIDE2-1:!4903.50N/07201.75W-/A=001234 mast",
+        "K1A>APRS:@092345h4903.50N/07201.75W>moved",
+        "K1A>APRS::WIDE2-2  :hi",
+        "K1A>APRS,WIDE2-2:}WIDE1-2>WIDE2-2,TCPIP,WIDE2-3*::WIDE1-3  :hi",
+    };
+    uint8_t bytes[300];
+    for (size_t i = 0; i < sizeof reports / sizeof *reports; i++) {
+        size_t length = frame_of(bytes, reports[i], 6);
+        for (size_t n = 0; n <= length; n++)
+            each_price(bytes, n);
+        each_price(bytes, frame_of(bytes, reports[i], 7));
+    }
+    for (size_t i = 0; i < sizeof bytes; i++)
+        bytes[i] = (uint8_t)(i * 37);
+    for (size_t n = 0; n <= sizeof bytes; n++)
+        as_coded_and_sent((Data){XARA_GENERIC, bytes, n}, 3, masks[n % MASKS].mask);
+}
+
+/* A report with every byte in every place of it. */
+static void preview_bytes(void)
+{
+    uint8_t frame[60];
+    size_t n = frame_of(frame, "K1A>APRS,WIDE1-1:!4903.50N/07201.75W-/A=001234", 6);
+    for (size_t i = 0; i < 256 * n; i++) {
+        uint8_t was = frame[i / 256];
+        frame[i / 256] = (uint8_t)i;
+        as_coded_and_sent((Data){XARA_AX25, frame, n}, 5, XARA_MASK_FM);
+        frame[i / 256] = was;
+    }
+}
+
+static void preview_edges(void)
+{
+    preview_answers();
+    preview_refusals();
+    preview_order();
+    preview_limits();
+    preview_fields();
+    preview_data();
+    preview_bytes();
 }
 
 /* The frame of a fragment of so many bytes is refused with this at field 5, and nothing is changed. */
@@ -2100,6 +2336,7 @@ int main(void)
     mask_limits();
     worked_examples();
     slot_examples();
+    preview_edges();
     frame_refusals();
     state_refusals();
     receiver_masks();

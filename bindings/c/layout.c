@@ -6,6 +6,9 @@
 _Static_assert(sizeof(XaraTallies) == 64 && sizeof(XaraReceiver) == 88, "the sizes that the header tells");
 _Static_assert(sizeof(XaraFresh) == 96 && sizeof(XaraPushed) == 104, "the sizes that the header tells");
 _Static_assert(sizeof(XaraSlot) == 104 && sizeof(XaraKept) == 832 && sizeof(XaraKeeping) == 848, "the sizes that the header tells");
+_Static_assert(sizeof(XaraPreview) == 24 && offsetof(XaraPreview, ok) == 0 && offsetof(XaraPreview, refusal) == 1 &&
+                   offsetof(XaraPreview, length) == 8 && offsetof(XaraPreview, count) == 16,
+               "the sizes that the header tells");
 _Static_assert(XARA_KEPT_STORE == XARA_KEPT * XARA_STORE, "a store for each kept state");
 _Static_assert(offsetof(XaraReceiver, tallies) == 24 && offsetof(XaraPushed, cause) == 2, "after the fields that stood there");
 
@@ -68,6 +71,11 @@ static void answers(void)
     PLACE(XaraEncoded, refusal);
     PLACE(XaraEncoded, aprs_type);
     PLACE(XaraEncoded, length);
+    SIZE(XaraPreview);
+    PLACE(XaraPreview, ok);
+    PLACE(XaraPreview, refusal);
+    PLACE(XaraPreview, length);
+    PLACE(XaraPreview, count);
     SIZE(XaraSummary);
     PLACE(XaraSummary, ok);
     PLACE(XaraSummary, refusal);

@@ -13,6 +13,8 @@
  *   data -> xara_encode -> message -> xara_fragment -> fragments -> xara_build_frame -> frames -> the air
  *        -> xara_receiver_push -> message -> xara_decode -> data
  *
+ * Before a report is sent, xara_preview tells what it costs: the length of its message, and how many fragments that takes.
+ *
  * A message may be read in two ways, and the receiving side alone chooses: xara_encode and all that goes on the air are the same
  * for both. The calls WIDE1-2, WIDE1-3, WIDE2-2 and WIDE2-3 are sent in a short form that ends in two bits. xara_decode takes
  * these for two decimal digits, as the Rust from which this library was ported does, and hands the calls back with the SSIDs 10
@@ -307,6 +309,14 @@ typedef struct XaraEncoded {
     size_t length;     /* 0 where not ok */
 } XaraEncoded;
 
+/* 24 bytes. The message's length and how many fragments it takes, or a refusal's number. */
+typedef struct XaraPreview {
+    bool ok;         /* 1 where it answers, 0 where it refuses */
+    uint8_t refusal; /* enum xara_refusal; 0 where ok */
+    size_t length;   /* bytes of the message, to 5,000; 0 where not ok */
+    size_t count;    /* fragments, to XARA_MAX_FRAGMENTS of the mask; 0 where not ok */
+} XaraPreview;
+
 /* 16 bytes. What a frame is, or a refusal's number. */
 typedef struct XaraSummary {
     bool ok;           /* 1 where it answers, 0 where it refuses */
@@ -417,6 +427,16 @@ XaraKeeping xara_kept_drop(XaraKept kept, const uint8_t *lent, size_t lent_len, 
  * Refuses with COMMAND, TOO_LONG, then SHORT, BAD_CALL or FORMAT, whichever is met first, then OUTPUT.
  */
 XaraEncoded xara_encode(uint8_t command, const uint8_t *data, size_t data_len, uint8_t *out, size_t out_len);
+
+/*
+ * What data costs before it is sent: the length of its message, and how many fragments that takes at this field under this mask.
+ * The answer is that of coding and then sending with outputs that are large enough: the length is that of xara_encode, the count
+ * that of xara_count_for_field, and a refusal is the first one of xara_encode and then of xara_fragment for fragment 0. No output
+ * is lent, and nothing is written.
+ * Refuses with COMMAND, TOO_LONG, then SHORT, BAD_CALL or FORMAT, whichever is met first, then FIELD, MASK, COUNT, in this order:
+ * the field and the mask of data that can't be coded are not looked at.
+ */
+XaraPreview xara_preview(uint8_t command, const uint8_t *data, size_t data_len, size_t field, uint8_t mask);
 
 /*
  * What a frame is, before it is coded; of generic bytes text, no UI frame, 0 digipeaters. UI is control 000P0011, 03 or 13,

@@ -76,6 +76,10 @@
 //! # Ok::<(), xara::Refusal>(())
 //! ```
 //!
+//! # Before sending
+//!
+//! [`preview`] tells what data costs: the length of its message and how many fragments that takes, or why it can't be sent.
+//!
 //! # Where fragments went
 //!
 //! A receiver counts what it is offered and what comes of it: [`Reassembler::tallies`] hands out the eight [`Tallies`], of which the
@@ -110,13 +114,14 @@
 //!
 //! [`Encoder`], [`Decoder`], [`Reassembler`] and [`Channels`] own buffers that are large enough for every answer. The functions
 //! [`encode`], [`decode`], [`decode_as`], [`fragment`], [`build_frame`] and the calls of [`State`] and of [`Kept`] write to buffers
-//! that are lent, and allocate nothing.
+//! that are lent, and allocate nothing. [`preview`] and [`summary`] need no buffer.
 #![deny(unsafe_code)]
 #![warn(missing_docs)]
 
 mod codec;
 mod frame;
 mod kept;
+mod preview;
 mod raw;
 mod receiver;
 mod refusal;
@@ -129,6 +134,7 @@ mod words;
 pub use codec::{Buffer, Decoder, Encoder, Reading, Summary, decode, decode_as, encode, summary};
 pub use frame::{Control, Frame, Frames, TERMINATOR, build_frame};
 pub use kept::{Channels, KEPT, KEPT_STORE, Kept, MAX_NAME, Slot};
+pub use preview::{Preview, preview};
 pub use receiver::{Heard, RX_BUFFER, RX_MAX_FRAGMENTS, Reassembler, State};
 pub use refusal::Refusal;
 pub use sender::{Fragment, Fragments, MAX_FIELD, MIN_FIELD, count_for_field, fragment, fragments};

@@ -95,6 +95,15 @@ pub struct XaraEncoded {
 
 #[repr(C)]
 #[derive(Clone, Copy)]
+pub struct XaraPreview {
+    pub ok: u8,
+    pub refusal: u8,
+    pub length: usize,
+    pub count: usize,
+}
+
+#[repr(C)]
+#[derive(Clone, Copy)]
 pub struct XaraSummary {
     pub ok: u8,
     pub refusal: u8,
@@ -182,6 +191,7 @@ mod linked {
             name_len: usize,
         ) -> XaraKeeping;
         pub fn xara_encode(command: u8, data: *const u8, data_len: usize, out: *mut u8, out_len: usize) -> XaraEncoded;
+        pub fn xara_preview(command: u8, data: *const u8, data_len: usize, field: usize, mask: u8) -> XaraPreview;
         pub fn xara_summary(command: u8, data: *const u8, data_len: usize) -> XaraSummary;
         pub fn xara_decode(message: *const u8, message_len: usize, out: *mut u8, out_len: usize) -> XaraDecoded;
         pub fn xara_decode_mended(message: *const u8, message_len: usize, out: *mut u8, out_len: usize) -> XaraDecoded;
@@ -247,6 +257,11 @@ pub fn xara_encode(command: u8, data: &[u8], out: &mut [u8]) -> XaraEncoded {
     let (lent, room) = (out.as_mut_ptr(), out.len());
     // SAFETY: the slices are lent whole, one for reading and one for writing, and do not overlap.
     unsafe { linked::xara_encode(command, data.as_ptr(), data.len(), lent, room) }
+}
+
+pub fn xara_preview(command: u8, data: &[u8], field: usize, mask: u8) -> XaraPreview {
+    // SAFETY: the slice is lent whole for reading.
+    unsafe { linked::xara_preview(command, data.as_ptr(), data.len(), field, mask) }
 }
 
 pub fn xara_summary(command: u8, data: &[u8]) -> XaraSummary {

@@ -40,6 +40,29 @@ fn summary() {
     assert_eq!(xara::summary(Command::Ax25Long, &[0; 17]), Err(Refusal::Short));
 }
 
+/// What the coder refuses comes before the field, and the field before the count.
+#[test]
+fn preview() {
+    let (form, bad) = (frame(b"APRS  ", b"!4903.50N/00723.75E>/A=00x234"), frame(b"C@    ", b"A"));
+    let plain = frame(b"CQ    ", b"A");
+    for (field, mask) in [0, 1, 2, 3, 512, 513, usize::MAX].into_iter().zip(Mask::ALL) {
+        let said = |command, data: &[u8]| xara::preview(command, data, field, mask).unwrap_err();
+        assert_eq!([Command::Ax25, Command::Generic].map(|command| said(command, &[0; 5000])), [Refusal::TooLong; 2]);
+        assert_eq!(said(Command::Ax25, &[]), Refusal::Short);
+        assert_eq!(said(Command::Ax25, &plain[..15]), Refusal::Short);
+        assert_eq!(said(Command::Ax25Long, &[0; 17]), Refusal::Short);
+        assert_eq!(said(Command::Ax25, &bad), Refusal::BadCall);
+        assert_eq!(said(Command::Ax25, &form), Refusal::Format);
+    }
+    for field in [0, 1, 2, 513, usize::MAX] {
+        assert_eq!(xara::preview(Command::Ax25, &plain, field, Mask::Hf), Err(Refusal::Field));
+        assert_eq!(xara::preview(Command::Generic, &[0x80; 4999], field, Mask::Bits7), Err(Refusal::Field));
+    }
+    for mask in Mask::ALL {
+        assert_eq!(xara::preview(Command::Generic, &[0x80; 4999], 3, mask), Err(Refusal::Count));
+    }
+}
+
 #[test]
 fn decoder() {
     let mut out = [0xA5; 100];

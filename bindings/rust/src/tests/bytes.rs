@@ -42,9 +42,24 @@ fn every_other_command_is_refused() {
         assert_eq!((a.ok, a.refusal, a.aprs_type, a.length), (0, 1, 0, 0));
         let a = raw::xara_summary(command, b"A");
         assert_eq!((a.ok, a.refusal, a.aprs_type, a.ui, a.digis), (0, 1, 0, 0, 0));
+        for (data, field, mask) in [(&[0x41][..], 5, 0xF0), (b"A", 2, 0), (&[0; 5000], 2, 0)] {
+            let a = raw::xara_preview(command, data, field, mask);
+            assert_eq!((a.ok, a.refusal, a.length, a.count), (0, 1, 0, 0));
+        }
     }
     assert_eq!(out, [0xA5; 10]);
 }
+
+/// Previews under a mask that there is not: what the coder refuses comes first, then the field, and the count after the mask.
+const PREVIEWS: [(u8, &[u8], usize, u8); 7] = [
+    (2, &[0x80; 5000], 5, 2),
+    (0, &[0x80; 15], 2, 3),
+    (0, b"\x86\xA2\x40\x40\x40\x40\x60\xD6\xBE\x62\x40\x40\x40\x61\x03\xF0A", 513, 4),
+    (2, b"A", 2, 8),
+    (2, b"A", 513, 8),
+    (2, b"A", 5, 9),
+    (2, &[0x80; 4999], 3, 9),
+];
 
 #[test]
 fn every_other_mask_is_refused() {
@@ -53,6 +68,10 @@ fn every_other_mask_is_refused() {
         for (message, field, refusal) in [(&b""[..], 2, 8), (b"", 5, 9), (b"A", 5, 9)] {
             let a = raw::xara_fragment(message, field, crc_mask, 0, &mut out);
             assert_eq!((a.ok, a.refusal, a.value), (0, refusal, 0));
+        }
+        for (command, data, field, refusal) in PREVIEWS {
+            let a = raw::xara_preview(command, data, field, crc_mask);
+            assert_eq!((a.ok, a.refusal, a.length, a.count), (0, refusal, 0, 0));
         }
         let a = raw::xara_receiver_new(crc_mask);
         assert_eq!((a.ok, a.refusal, a.receiver), (0, 9, ZEROS));
@@ -68,6 +87,10 @@ fn masks_are_taken() {
     for mask in Mask::ALL {
         let a = raw::xara_receiver_new(mask.byte());
         assert_eq!((a.ok, a.refusal, a.receiver), (1, 0, XaraReceiver { crc_mask: mask.byte(), ..ZEROS }));
+        let a = raw::xara_preview(2, &[0x80; 4], 3, mask.byte());
+        assert_eq!((a.ok, a.refusal, a.length, a.count), (1, 0, 5, 3));
+        let a = raw::xara_preview(2, &[0x80; 4999], 3, mask.byte());
+        assert_eq!((a.ok, a.refusal, a.length, a.count), (0, 12, 0, 0));
     }
 }
 

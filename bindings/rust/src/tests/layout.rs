@@ -1,8 +1,8 @@
 //! The structs against those of xara.h, by a C program that prints its own.
 
 use crate::raw::{
-    XaraAnswer, XaraControl, XaraDecoded, XaraEncoded, XaraFresh, XaraKeeping, XaraKept, XaraPushed, XaraReceiver,
-    XaraSlot, XaraSummary, XaraTallies,
+    XaraAnswer, XaraControl, XaraDecoded, XaraEncoded, XaraFresh, XaraKeeping, XaraKept, XaraPreview, XaraPushed,
+    XaraReceiver, XaraSlot, XaraSummary, XaraTallies,
 };
 use std::mem::{align_of, offset_of, size_of};
 use std::path::Path;
@@ -43,6 +43,7 @@ fn ours() -> String {
         lines!(XaraPushed: kind, refusal, cause, length, receiver),
         lines!(XaraKeeping: ok, refusal, place, kept),
         lines!(XaraEncoded: ok, refusal, aprs_type, length),
+        lines!(XaraPreview: ok, refusal, length, count),
         lines!(XaraSummary: ok, refusal, aprs_type, ui, digis),
         lines!(XaraDecoded: ok, refusal, command, length),
     ]
