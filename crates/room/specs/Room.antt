@@ -1,7 +1,7 @@
 -- The most bytes that the calls answer, as the C header has them: "An output with the most bytes is never refused as too short."
 -- Assumes nothing.
 use mathlib.Core.Path.{_≡_}
-use mathlib.Core.Bool.{Bool, true, not}
+use mathlib.Core.Bool.{Bool, true, not, _&&_}
 use Prim.Native.Nat.{ℕ}
 use lib.Dec.{leb, eqb}
 use Rattle.refusals.specs.Outcome.{Outcome, refused}
@@ -24,7 +24,7 @@ RefusesBy p o = (n : ℕ) → o ≡ refused n → p n ≡ true
 
 -- "Coder 1, 2, then the source's first error": 3, 4 or 5
 abbrev pub isCoders : ℕ → Bool
-isCoders n = leb n 5
+isCoders n = leb 1 n && leb n 5
 
 -- not 6: "lent output shorter than the answer"
 abbrev pub isNotShort : ℕ → Bool
