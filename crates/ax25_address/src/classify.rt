@@ -7,7 +7,7 @@ ghost use Rattle.ax25_address.specs.Kind.{type_number};
 use ax25_token::encode::starts;
 
 // What the information of a frame is.
-#[derive(Drop)]
+#[derive(Clone, Copy)]
 pub enum AprsType {
     Text,
     Binary,

@@ -4,7 +4,7 @@ ghost use Rattle.ax25_address.specs.Digis.{digis_of, digis_from};
 ghost use Rattle.ax25_address.specs.Parse.{parse_of, count_of};
 
 // How many digipeaters, or a frame that is short.
-#[derive(Drop)]
+#[derive(Clone, Copy)]
 pub enum Digis {
     Found(usize),
     Short,

@@ -19,7 +19,7 @@ pub const UI_CTRL: u8 = 0x03;
 pub const PID_NO_L3: u8 = 0xF0;
 
 // The source's record of a frame, without its addresses.
-#[derive(Drop)]
+#[derive(Clone, Copy)]
 pub struct Record {
     pub digis: usize,
     pub ap: bool,
@@ -30,7 +30,7 @@ pub struct Record {
 }
 
 // The record, or a frame that is short.
-#[derive(Drop)]
+#[derive(Clone, Copy)]
 pub enum Parsed {
     Found(Record),
     Short,

@@ -6,7 +6,7 @@ ghost use Rattle.ax25_aprs.specs.Put.{number_of};
 use ax25_address::trim::{end, front};
 
 // The number that some bytes are, if they are one.
-#[derive(Drop)]
+#[derive(Clone, Copy)]
 pub enum Number {
     Is(u64),
     Not,

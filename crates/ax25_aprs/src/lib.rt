@@ -1,4 +1,6 @@
 // The bodies of APRS frames: text with the dictionary and altitudes, positions with and without a time, fields of third-party bodies.
+#![tactic(auto)]
+
 pub mod body;
 pub mod field;
 mod height;

@@ -7,7 +7,7 @@ use bits::read::Taken;
 use bits::reader::Reader;
 
 // The answers of a position's readings, in their order.
-#[derive(Drop)]
+#[derive(Clone, Copy)]
 pub struct Answers {
     pub lat: Taken,
     pub north: Taken,
@@ -19,7 +19,7 @@ pub struct Answers {
 }
 
 // The numbers of a position, and the next bit position.
-#[derive(Drop)]
+#[derive(Clone, Copy)]
 pub struct Place {
     pub lat: u64,
     pub north: u64,
@@ -32,7 +32,7 @@ pub struct Place {
 }
 
 // A position, or too few bits.
-#[derive(Drop)]
+#[derive(Clone, Copy)]
 pub enum Found {
     At(Place),
     Nothing,

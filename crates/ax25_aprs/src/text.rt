@@ -15,7 +15,7 @@ use crate::part::Part;
 use crate::{field, height, number, runs, words};
 
 // What coding the front of a text gave: how many bytes it took, and the next position; or an altitude is no number.
-#[derive(Drop)]
+#[derive(Clone, Copy)]
 pub enum Step {
     Took(usize, usize),
     Stuck,

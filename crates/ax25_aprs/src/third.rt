@@ -4,14 +4,14 @@ ghost use Rattle.ax25_aprs.specs.Put.{field_in, Within};
 ghost use Rattle.ax25_aprs.specs.Third.{collect_of};
 
 // Where a field's text ends and where to go on: behind the stop byte, or at the field again where none was found.
-#[derive(Drop)]
+#[derive(Clone, Copy)]
 pub struct Span {
     pub end: usize,
     pub next: usize,
 }
 
 // A field, or the frame ends before it does.
-#[derive(Drop)]
+#[derive(Clone, Copy)]
 pub enum Collected {
     Found(Span),
     Short,

@@ -18,7 +18,7 @@ use bits::read::{Got, Taken};
 use bits_write::least;
 
 // Where to go on behind a call's field and the next position, or the refusal's number.
-#[derive(Drop)]
+#[derive(Clone, Copy)]
 pub enum Piece {
     Next(usize, usize),
     Refused(u8),
@@ -132,7 +132,7 @@ pub fn third_encode(d: &[u8], l: usize, out: &mut [u8], at: usize) -> Part
 }
 
 // The next bit and the next place behind a call that was read, or no call.
-#[derive(Drop)]
+#[derive(Clone, Copy)]
 pub enum Pass {
     Next(usize, usize),
     Nothing,

@@ -1,4 +1,6 @@
 // A message as a frame: `decode` of the source. Addresses are written as they are read; where nothing can be read, nothing is said of the output.
+#![tactic(auto)]
+
 ghost use Rattle.std.specs.Prelude.{◌≡◌, false, [], ◌∷◌, ◌+◌, ◌*◌, ◌/◌, ◌^◌, ◌≤◌, ◌<◌, ℕ, length, get_or, drop};
 ghost use Rattle.std.proofs.Math.Option.{none, some};
 ghost use Rattle.laws.specs.Bits.{odd, unpack};
@@ -26,21 +28,21 @@ use bits::read::{Got, Taken};
 use bits::reader::bit_take_at;
 
 // The next position and the next place, or nothing to read.
-#[derive(Drop)]
+#[derive(Clone, Copy)]
 pub enum Read {
     Next(usize, usize),
     Nothing,
 }
 
 // A type and the next position, or no type.
-#[derive(Drop)]
+#[derive(Clone, Copy)]
 pub enum Typed {
     Is(AprsType, usize),
     Nothing,
 }
 
 // What stands before the body: the next position, the next place and the type.
-#[derive(Drop)]
+#[derive(Clone, Copy)]
 pub enum Head {
     Is(usize, usize, AprsType),
     Nothing,

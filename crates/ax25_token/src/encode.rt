@@ -14,14 +14,14 @@ use crate::names::{Counted, Row, fixed_of, numbered_of, pair_of, two_at};
 use bits_write::push;
 
 // The next position, or a bad call.
-#[derive(Drop)]
+#[derive(Clone, Copy)]
 pub enum Put {
     Next(usize),
     Bad,
 }
 
 // The code of a letter, or none.
-#[derive(Drop)]
+#[derive(Clone, Copy)]
 pub enum Code {
     Is(u64),
     Nothing,

@@ -1,4 +1,6 @@
 // Call tokens: a call of at most 16 bytes, read from bits and written to bits.
+#![tactic(auto)]
+
 pub mod encode;
 pub mod names;
 
@@ -14,21 +16,21 @@ use bits::read::Taken;
 use bits::reader::{Two, bit_take_at, bit_text_at, take_at};
 
 // A call: its text is the first len bytes.
-#[derive(Drop)]
+#[derive(Clone, Copy)]
 pub struct Call {
     pub bytes: [u8; 16],
     pub len: usize,
 }
 
 // The next position, or no token.
-#[derive(Drop)]
+#[derive(Clone, Copy)]
 pub enum Token {
     Next(usize),
     Nothing,
 }
 
 // A call beside the token that says whether there is one, and where the next bits are.
-#[derive(Drop)]
+#[derive(Clone, Copy)]
 pub struct Decoded {
     pub token: Token,
     pub call: Call,

@@ -11,14 +11,14 @@ ghost use Rattle.ax25_token.specs.Token.{hyphened, pair_bits, pairs_bits, fixed_
 use crate::encode::{Code, number_at, one_of, same, starts};
 
 // A row of PAIRS: its index, the length of its name, and the bits of its number.
-#[derive(Drop)]
+#[derive(Clone, Copy)]
 pub enum Row {
     Paired(u64, usize, usize),
     Unpaired,
 }
 
 // A row of NUMBERED: its index, the number from the row's lowest on, and the bits of the number.
-#[derive(Drop)]
+#[derive(Clone, Copy)]
 pub enum Counted {
     Count(u64, u64, usize),
     Uncounted,

@@ -1,4 +1,6 @@
 // Bits, most significant first, from packed bytes, and the number at the front of a text: bits.rs of the source but for its writers.
+#![tactic(auto)]
+
 pub mod read;
 pub mod reader;
 

@@ -11,14 +11,14 @@ use bits_write::words::{one, power, wide, word};
 use bits_write::{byte, least, put_bytes};
 
 // A number and the next position, or too few bits.
-#[derive(Drop)]
+#[derive(Clone, Copy)]
 pub enum Taken {
     Bits(u64, usize),
     Short,
 }
 
 // The next place after a text that was read, or no bits at all.
-#[derive(Drop)]
+#[derive(Clone, Copy)]
 pub enum Got {
     Next(usize),
     Nothing,

@@ -9,14 +9,14 @@ ghost use Rattle.bits.specs.Text7.{text7_of, text7_next, text7_left};
 use crate::read;
 use crate::read::{Got, Taken};
 
-#[derive(Drop)]
+#[derive(Clone, Copy)]
 pub struct Reader<'a> {
     pub bytes: &'a [u8],
     pub at: usize,
 }
 
 // Two answers in turn: the second from where the first left the reader.
-#[derive(Drop)]
+#[derive(Clone, Copy)]
 pub struct Two {
     pub first: Taken,
     pub second: Taken,

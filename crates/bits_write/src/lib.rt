@@ -1,4 +1,6 @@
 // Bits, most significant first, into packed bytes: the writers of bits.rs of the source. What lies past the end of the slice is not written, and the place goes on, so that a run over an empty slice measures.
+#![tactic(auto)]
+
 pub mod words;
 
 ghost use Rattle.std.specs.Prelude.{◌≡◌, [], ◌∷◌, ◌+◌, ◌-◌, ◌*◌, ◌/◌, ◌%◌, ◌^◌, ◌≤◌, ◌<◌, min, length, take, drop};

@@ -1,4 +1,6 @@
 // Lines that are a coding, a summary, a decoding or a preview.
+#![tactic(auto)]
+
 use ax25_address::classify::code;
 use kiss::{Decoded, Encoded, Facts, Summarised};
 use lines::answer::{Outcome, same_marked, same_refusal, same_three, same_two};

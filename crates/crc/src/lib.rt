@@ -1,4 +1,6 @@
 // CRC-16/GENIBUS, eight bytes a step, and long inputs 128 at a time. The definition goes bit by bit.
+#![tactic(auto)]
+
 mod table;
 
 ghost use Rattle.std.specs.Prelude.{◌≡◌, ◌+◌, ◌*◌, ◌/◌, ◌%◌, ◌≤◌, ◌<◌, length, get_or, take, drop};

@@ -1,4 +1,6 @@
 // The frame of a fragment: hf/frame.rs of the source.
+#![tactic(auto)]
+
 ghost use Rattle.std.specs.Prelude.{◌≡◌, [], ◌∷◌, ◌+◌, ◌-◌, ◌/◌, ◌%◌, ◌≤◌, length, take};
 ghost use Rattle.laws.specs.Bits.{num};
 ghost use Rattle.laws.specs.Wrote.{Wrote};
@@ -14,7 +16,7 @@ use refusals::{Answer, field_ok};
 pub const TERMINATOR: u8 = 0x14;
 
 // What the control byte carries besides its bit 0.
-#[derive(Drop)]
+#[derive(Clone, Copy)]
 pub struct Control {
     pub reply: u8,
     pub compressed: bool,

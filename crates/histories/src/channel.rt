@@ -9,14 +9,14 @@ use receiver::{Fresh, Reassembler};
 use texts::part::piece;
 
 // The receiver that listens, and the states that are kept.
-#[derive(Drop)]
+#[derive(Clone, Copy)]
 struct Listener {
     receiver: Reassembler,
     kept: Kept,
 }
 
 // What comes of a step, and the listener that it leaves.
-#[derive(Drop)]
+#[derive(Clone, Copy)]
 struct Turn {
     outcome: Outcome,
     listener: Listener,

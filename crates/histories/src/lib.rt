@@ -1,4 +1,6 @@
 // Lines that are a history of calls on one receiver.
+#![tactic(auto)]
+
 pub mod channel;
 
 ghost use Rattle.std.specs.Prelude.{◌≡◌, length};
@@ -9,14 +11,14 @@ use receiver::{Fresh, Push, Pushed, Reassembler};
 use texts::part::piece;
 
 // What comes of a call, and the receiver that it leaves.
-#[derive(Drop)]
+#[derive(Clone, Copy)]
 struct Step {
     outcome: Outcome,
     receiver: Reassembler,
 }
 
 // What a line starts with: a new receiver, or the refusal of its mask.
-#[derive(Drop)]
+#[derive(Clone, Copy)]
 enum Opening {
     Bad,
     Refused(u8),

@@ -1,4 +1,6 @@
 // Standard input, line by line, the numbers of the command line, and what is written of a line.
+#![tactic(auto)]
+
 ghost use Rattle.std.specs.Prelude.{◌≡◌, ◌+◌, ◌^◌, ◌<◌, ◌≤◌, length};
 
 use bits_write::copy;
@@ -6,7 +8,7 @@ use texts::number::{Number, decimal};
 use texts::part::{find, front};
 
 // Where reading stands.
-#[derive(Drop)]
+#[derive(Clone, Copy)]
 pub struct Stand {
     // what was read and not taken yet is `chunk[from..to]`
     pub from: usize,
@@ -22,7 +24,7 @@ pub struct Stand {
 }
 
 // The numbers of the command line.
-#[derive(Drop)]
+#[derive(Clone, Copy)]
 pub enum Arguments {
     Two(u64, u64),
     Other,
@@ -227,7 +229,7 @@ pub fn print(out: &[u8], n: usize) -> bool {
 }
 
 // Answers that are held in the output and not written yet: so many bytes. Where they could not be written, that is so.
-#[derive(Drop)]
+#[derive(Clone, Copy)]
 pub struct Held {
     pub at: usize,
     pub failed: bool,

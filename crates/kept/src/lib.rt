@@ -1,4 +1,6 @@
 // Receiver states that are kept under names, and their stores in 40,000 lent bytes: document 02, E8.
+#![tactic(auto)]
+
 ghost use Rattle.std.specs.Prelude.{◌≡◌, ◌*◌, ◌<◌, ◌≤◌, max, length, take};
 ghost use Rattle.std.proofs.lemmas.List.Edits.{sets};
 ghost use Rattle.laws.specs.Text.{same};
@@ -10,7 +12,7 @@ use receiver::{Reassembler, Stored, Tallies};
 
 // A state under a name of 1 to 8 bytes. A slot whose name has another length is free, whatever else it holds.
 #[repr(C)]
-#[derive(Drop)]
+#[derive(Clone, Copy)]
 pub struct Slot {
     pub len: usize,
     pub name: [u8; 8],
@@ -19,13 +21,13 @@ pub struct Slot {
 
 // The kept states. The store of slot i is the lent bytes from 5,000 i on.
 #[repr(C)]
-#[derive(Drop)]
+#[derive(Clone, Copy)]
 pub struct Kept {
     pub slots: [Slot; 8],
 }
 
 // ok with the place of a name, or a refusal's number.
-#[derive(Drop)]
+#[derive(Clone, Copy)]
 struct Named {
     ok: bool,
     refusal: u8,
@@ -34,7 +36,7 @@ struct Named {
 
 // The same, and the kept states as the call leaves them.
 #[repr(C)]
-#[derive(Drop)]
+#[derive(Clone, Copy)]
 pub struct Keeping {
     pub ok: bool,
     pub refusal: u8,
@@ -43,14 +45,14 @@ pub struct Keeping {
 }
 
 // A refusal's number, or the state that was kept.
-#[derive(Drop)]
+#[derive(Clone, Copy)]
 pub enum Returned {
     Refused(u8),
     Ready(Reassembler),
 }
 
 // The place of a slot, or none.
-#[derive(Drop)]
+#[derive(Clone, Copy)]
 enum Place {
     At(usize),
     Nowhere,

@@ -10,7 +10,7 @@ use ax25_aprs::part::Part;
 use refusals::{COMMAND, MAX_DATA, SHORT, TOO_LONG};
 
 // A refusal's number, or the length of the message.
-#[derive(Drop)]
+#[derive(Clone, Copy)]
 pub enum Measured {
     Refused(u8),
     Length(usize),

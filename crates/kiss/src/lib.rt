@@ -1,4 +1,6 @@
 // Data coded and messages decoded.
+#![tactic(auto)]
+
 mod generic;
 mod lengths;
 mod summaries;
@@ -28,7 +30,7 @@ pub use summaries::{Facts, Summarised, summary};
 const SHORT_INPUT: usize = 512;
 
 // A refusal's number, or how many bytes were written and the type.
-#[derive(Drop)]
+#[derive(Clone, Copy)]
 pub enum Encoded {
     Refused(u8),
     Bytes(usize, AprsType),
@@ -109,7 +111,7 @@ pub fn encode(command: u8, data: &[u8], out: &mut [u8]) -> Encoded
 }
 
 // A refusal's number, or the command and how many bytes were written.
-#[derive(Drop)]
+#[derive(Clone, Copy)]
 pub enum Decoded {
     Refused(u8),
     Bytes(u8, usize),

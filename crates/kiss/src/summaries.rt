@@ -11,7 +11,7 @@ use refusals::{COMMAND, MAX_DATA, SHORT, TOO_LONG};
 const UI_POLL_CTRL: u8 = 0x13;
 
 // What a frame is, before it is coded.
-#[derive(Drop)]
+#[derive(Clone, Copy)]
 pub struct Facts {
     pub aprs_type: AprsType,
     pub digis: usize,
@@ -19,7 +19,7 @@ pub struct Facts {
 }
 
 // A refusal's number, or the facts.
-#[derive(Drop)]
+#[derive(Clone, Copy)]
 pub enum Summarised {
     Refused(u8),
     Is(Facts),

@@ -4,7 +4,7 @@ use texts::number::Number;
 use texts::part::piece;
 
 // What comes of a line: the answers are equal, they differ, or the line is not understood.
-#[derive(Drop)]
+#[derive(Clone, Copy)]
 pub enum Outcome {
     Equal,
     Differ,

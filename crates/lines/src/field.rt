@@ -6,7 +6,7 @@ use texts::number::{Number, decimal};
 use texts::part::piece;
 
 // Whether a text spells bytes that there is room for, and how many.
-#[derive(Drop)]
+#[derive(Clone, Copy)]
 pub struct Bytes {
     pub good: bool,
     pub n: usize,
@@ -123,7 +123,7 @@ pub fn inputs(line: &[u8], v: &mut [u64], few: &mut [u8], out: &mut [u8]) -> Byt
 }
 
 // V AT W N of a line; not good where a width is more than a word's.
-#[derive(Drop)]
+#[derive(Clone, Copy)]
 pub struct Words {
     pub good: bool,
     pub v: u64,
@@ -163,7 +163,7 @@ pub fn two_words(line: &[u8]) -> Words
 }
 
 // What goes into a call KIND:N:HEX of a history; not good where it is another text.
-#[derive(Drop)]
+#[derive(Clone, Copy)]
 pub struct Given {
     pub good: bool,
     pub n: u64,

@@ -1,4 +1,6 @@
 // Frames as a TNC-2 monitor prints them: SRC>DEST, digipeaters, the information.
+#![tactic(auto)]
+
 ghost use Rattle.std.specs.Prelude.{◌≡◌, map, ◌+◌, ◌*◌, ◌^◌, ◌≤◌, ◌<◌, length};
 ghost use Rattle.std.proofs.Math.Option.{some};
 ghost use Rattle.laws.specs.Wrote.{Wrote};

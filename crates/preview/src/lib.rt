@@ -1,4 +1,6 @@
 // What a message costs before it is coded and sent: document 02, E3.
+#![tactic(auto)]
+
 ghost use Rattle.std.specs.Prelude.{◌≡◌, ◌≤◌};
 ghost use Rattle.preview.specs.Preview.{fitting_price, preview_of};
 ghost use Rattle.preview.specs.Told.{previewed_of};
@@ -7,14 +9,14 @@ use kiss::Measured;
 use sender::Counted;
 
 // The coded length, and how many fragments it takes.
-#[derive(Drop)]
+#[derive(Clone, Copy)]
 pub struct Price {
     pub length: usize,
     pub count: usize,
 }
 
 // A refusal's number, or the price.
-#[derive(Drop)]
+#[derive(Clone, Copy)]
 pub enum Previewed {
     Refused(u8),
     Costs(Price),

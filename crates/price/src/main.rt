@@ -1,4 +1,6 @@
 // Reads the lines that `send` reads from standard input, and writes how many bytes and frames each would take, or why it is refused.
+#![tactic(auto)]
+
 fn main() {
     send_lines::run(true);
 }

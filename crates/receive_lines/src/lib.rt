@@ -1,4 +1,6 @@
 // What `receive` does: it reads frames from standard input, one a line, and writes what comes of each.
+#![tactic(auto)]
+
 mod line;
 mod loss;
 
@@ -17,7 +19,7 @@ use texts::say::{put_error, put_refusal};
 const ANSWER: usize = 370000;
 
 // How the lines ended: all were answered, which leaves a receiver, or an answer could not be written.
-#[derive(Drop)]
+#[derive(Clone, Copy)]
 enum End {
     Answered(Reassembler),
     Unwritten,

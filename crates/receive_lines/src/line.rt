@@ -18,7 +18,7 @@ use texts::say::{put_refusal, put_unread, put_word};
 use texts::show::put_shown;
 
 // What is said, so many bytes of the output, and the receiver that a line leaves.
-#[derive(Drop)]
+#[derive(Clone, Copy)]
 pub struct Step {
     pub size: usize,
     pub receiver: Reassembler,

@@ -1,4 +1,6 @@
 // The receiver: joins the fragments of a message in a lent store of 5,000 bytes.
+#![tactic(auto)]
+
 ghost use Rattle.std.specs.Prelude.{◌≡◌, true, false, List, [], ℕ, ◌≤◌, ◌<◌, max, length};
 ghost use Rattle.laws.specs.Bits.{num};
 ghost use Rattle.refusals.specs.Limits.{field_ok};
@@ -14,7 +16,7 @@ use frame::TERMINATOR;
 const LARGEST: u64 = 18446744073709551615;
 
 // What is known of the message that is being heard. Its bytes are the first `held` of the store.
-#[derive(Drop)]
+#[derive(Clone, Copy)]
 pub struct Joiner {
     // bytes held
     pub held: usize,
@@ -27,7 +29,7 @@ pub struct Joiner {
 }
 
 // Why a fragment is dropped.
-#[derive(Drop)]
+#[derive(Clone, Copy)]
 pub enum Cause {
     WrongLength,
     NoFragment,
@@ -37,7 +39,7 @@ pub enum Cause {
 }
 
 // What a push or a join answers: a refusal's number, Dropped with its cause, More, or Done with the length of the message in the store.
-#[derive(Drop)]
+#[derive(Clone, Copy)]
 pub enum Push {
     Refused(u8),
     Dropped(Cause),
@@ -47,7 +49,7 @@ pub enum Push {
 
 // How many frames and fragments were offered and not refused, and how many of them had each answer.
 #[repr(C)]
-#[derive(Drop)]
+#[derive(Clone, Copy)]
 pub struct Tallies {
     pub offered: u64,
     pub more: u64,
@@ -61,7 +63,7 @@ pub struct Tallies {
 }
 
 // The receiver: what is known of the message that is being heard, and the tallies.
-#[derive(Drop)]
+#[derive(Clone, Copy)]
 pub struct Reassembler {
     pub state: Joiner,
     pub tallies: Tallies,
@@ -69,7 +71,7 @@ pub struct Reassembler {
 
 // The receiver in numbers alone, as it is kept and as it crosses to C. Any byte but 0 is overflow.
 #[repr(C)]
-#[derive(Drop)]
+#[derive(Clone, Copy)]
 pub struct Stored {
     pub held: usize,
     pub nfrag: usize,
@@ -80,21 +82,21 @@ pub struct Stored {
 }
 
 // An answer with what is then known of the message.
-#[derive(Drop)]
+#[derive(Clone, Copy)]
 pub struct Joined {
     pub answer: Push,
     pub state: Joiner,
 }
 
 // An answer with the receiver as the call leaves it.
-#[derive(Drop)]
+#[derive(Clone, Copy)]
 pub struct Pushed {
     pub answer: Push,
     pub receiver: Reassembler,
 }
 
 // A new receiver, or a refusal's number.
-#[derive(Drop)]
+#[derive(Clone, Copy)]
 pub enum Fresh {
     Refused(u8),
     Ready(Reassembler),

@@ -1,4 +1,6 @@
 // The refusals of documents 01 and 02: their numbers by name, the tests that several calls share, and the answer of a call that writes bytes.
+#![tactic(auto)]
+
 ghost use Rattle.std.specs.Prelude.{◌≡◌};
 ghost use Rattle.refusals.specs.Limits.{field_ok, mask_ok};
 
@@ -54,7 +56,7 @@ pub const HF_CRC_MASK: u8 = 0xF0;
 pub const FM_CRC_MASK: u8 = 0xF8;
 
 // A refusal's number, or how many bytes were written.
-#[derive(Drop)]
+#[derive(Clone, Copy)]
 pub enum Answer {
     Refused(u8),
     Bytes(usize),

@@ -1,5 +1,7 @@
 // Reads recorded calls from standard input, makes each again with our functions, and says where the answers differ.
 // A line of the input is one call: its kind, what goes in, and last the recorded answer. A line that starts with # is a comment.
+#![tactic(auto)]
+
 mod answer;
 mod kinds;
 

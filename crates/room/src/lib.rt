@@ -1,1 +1,2 @@
 // The most bytes that the coder and the decoder answer. Definitions and proofs, no code.
+#![tactic(auto)]

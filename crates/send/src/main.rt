@@ -1,4 +1,6 @@
 // Reads lines from standard input, `ax25 HEX`, `long HEX`, `generic HEX` or `text TEXT`, and writes the frames of each.
+#![tactic(auto)]
+
 fn main() {
     send_lines::run(false);
 }

@@ -1,5 +1,7 @@
 // What `send` and `price` do: they read lines from standard input, `ax25 HEX`, `long HEX`, `generic HEX` or `text TEXT`. `send` writes
 // the frames of each, `price` how many bytes and frames they are.
+#![tactic(auto)]
+
 mod line;
 
 ghost use Rattle.std.specs.Prelude.{◌≡◌, ◌^◌, ◌≤◌, ◌<◌, length};

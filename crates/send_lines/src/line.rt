@@ -21,7 +21,7 @@ use texts::say::{command_of, put_error, put_refusal, put_unread};
 const MARKER: u8 = 0x01;
 
 // What comes of a fragment: the place behind its frame's line, or a refusal.
-#[derive(Drop)]
+#[derive(Clone, Copy)]
 pub enum Sent {
     Next(usize),
     Refused(u8),

@@ -1,4 +1,6 @@
 // The sender: fragments of a message, one at a time.
+#![tactic(auto)]
+
 ghost use Rattle.std.specs.Prelude.{true, ◌≡◌, ◌∷◌, ◌+◌, ◌-◌, ◌≤◌, ◌<◌, length, take, drop, get_or};
 ghost use Rattle.refusals.specs.Limits.{field_ok, mask_ok};
 ghost use Rattle.refusals.specs.Outcome.{left, into, outcome_of, answer};
@@ -8,7 +10,7 @@ use bits_write::{byte, copy, least};
 use refusals::Answer;
 
 // How many fragments a message takes, or a refusal's number.
-#[derive(Drop)]
+#[derive(Clone, Copy)]
 pub enum Counted {
     Refused(u8),
     Count(usize),

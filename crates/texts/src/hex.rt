@@ -8,7 +8,7 @@ use bits_write::byte;
 const DIGITS: [u8; 16] = *b"0123456789ABCDEF";
 
 // What a text spells: so many bytes, or what is wrong with it.
-#[derive(Drop)]
+#[derive(Clone, Copy)]
 pub enum Read {
     Bytes(usize),
     NoDigit,

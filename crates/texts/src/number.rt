@@ -6,7 +6,7 @@ ghost use Rattle.texts.specs.Number.{numeral_of, number_from, decimal_of, number
 use bits_write::byte;
 
 // What decimal digits spell: none where there is another byte, no byte, or more than 64 bits.
-#[derive(Drop)]
+#[derive(Clone, Copy)]
 pub enum Number {
     Is(u64),
     None,

@@ -1,4 +1,6 @@
 // The library for C and Rust programs: one thin function for each public call. A slice crosses as a pointer and a length; structs cross by value.
+#![tactic(auto)]
+
 ghost use Rattle.std.specs.Prelude.{◌≡◌, true, false, List, ℕ};
 ghost use Rattle.crc.specs.Crc.{crc_of};
 ghost use Rattle.refusals.specs.Outcome.{refused, answer, outcome_of, into};
@@ -26,7 +28,7 @@ use sender::Counted;
 
 // ok with a length or a count, or a refusal's number.
 #[repr(C)]
-#[derive(Drop)]
+#[derive(Clone, Copy)]
 pub struct XaraAnswer {
     pub ok: bool,
     pub refusal: u8,
@@ -35,7 +37,7 @@ pub struct XaraAnswer {
 
 // What the control byte of a frame carries. Any byte but 0 is compressed.
 #[repr(C)]
-#[derive(Drop)]
+#[derive(Clone, Copy)]
 pub struct XaraControl {
     pub reply: u8,
     pub compressed: u8,
@@ -44,7 +46,7 @@ pub struct XaraControl {
 
 // ok with a receiver, new or returned to, or a refusal's number.
 #[repr(C)]
-#[derive(Drop)]
+#[derive(Clone, Copy)]
 pub struct XaraFresh {
     pub ok: bool,
     pub refusal: u8,
@@ -54,7 +56,7 @@ pub struct XaraFresh {
 // What a push or a join answers, by kind: 0 refused with its number, 1 dropped with its cause, 2 more, 3 done with the message's length; and
 // the receiver.
 #[repr(C)]
-#[derive(Drop)]
+#[derive(Clone, Copy)]
 pub struct XaraPushed {
     pub kind: u8,
     pub refusal: u8,
@@ -65,7 +67,7 @@ pub struct XaraPushed {
 
 // ok with the data's type and the message's length, or a refusal's number.
 #[repr(C)]
-#[derive(Drop)]
+#[derive(Clone, Copy)]
 pub struct XaraEncoded {
     pub ok: bool,
     pub refusal: u8,
@@ -75,7 +77,7 @@ pub struct XaraEncoded {
 
 // ok with a message's length and how many fragments it takes, or a refusal's number.
 #[repr(C)]
-#[derive(Drop)]
+#[derive(Clone, Copy)]
 pub struct XaraPreview {
     pub ok: bool,
     pub refusal: u8,
@@ -85,7 +87,7 @@ pub struct XaraPreview {
 
 // ok with a frame's type, whether control is 03 or 13 and how many digipeaters, or a refusal's number.
 #[repr(C)]
-#[derive(Drop)]
+#[derive(Clone, Copy)]
 pub struct XaraSummary {
     pub ok: bool,
     pub refusal: u8,
@@ -96,7 +98,7 @@ pub struct XaraSummary {
 
 // ok with the command and the data's length, or a refusal's number.
 #[repr(C)]
-#[derive(Drop)]
+#[derive(Clone, Copy)]
 pub struct XaraDecoded {
     pub ok: bool,
     pub refusal: u8,
