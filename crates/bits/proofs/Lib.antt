@@ -1,14 +1,4 @@
 pub mod ReadLaws
-pub mod ReaderCalls
-pub mod ReaderLocals
-pub mod ReaderMethods
-pub mod ReaderMoves
-pub mod ReaderOutCalls
-pub mod ReaderOutMethods
-pub mod ReaderOutWays
-pub mod ReaderPairs
-pub mod ReaderTurns
-pub mod ReaderWays
 pub mod TakenLaws
 pub mod Text7Laws
 pub mod ValLaws

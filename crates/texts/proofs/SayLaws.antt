@@ -26,20 +26,20 @@ module _ (w : List ℕ) where
   module _ (no_ax25 : w ≡ ascii "ax25" → ⊥) where
     pub command_long : w ≡ ascii "long" → 1 ≡ command_of w
     unfolding command_of
-    command_long e = sym (pick_false _ _ (ne_same w (ascii "ax25") no-ax25) ∙ pick_true _ _ (eq_same w (ascii "long") e))
+    command_long e = sym (pick_false _ _ (ne_same w (ascii "ax25") no_ax25) ∙ pick_true _ _ (eq_same w (ascii "long") e))
 
     module _ (no_long : w ≡ ascii "long" → ⊥) where
       pub command_generic : w ≡ ascii "generic" → 2 ≡ command_of w
       unfolding command_of
       command_generic e =
-          sym (pick_false _ _ (ne_same w (ascii "ax25") no-ax25)
-          ∙ (pick_false _ _ (ne_same w (ascii "long") no-long) ∙ pick_true _ _ (eq_same w (ascii "generic") e)))
+          sym (pick_false _ _ (ne_same w (ascii "ax25") no_ax25)
+          ∙ (pick_false _ _ (ne_same w (ascii "long") no_long) ∙ pick_true _ _ (eq_same w (ascii "generic") e)))
 
       pub command_none : (w ≡ ascii "generic" → ⊥) → 3 ≡ command_of w
       unfolding command_of
       command_none e =
-          sym (pick_false _ _ (ne_same w (ascii "ax25") no-ax25)
-          ∙ (pick_false _ _ (ne_same w (ascii "long") no-long) ∙ pick_false _ _ (ne_same w (ascii "generic") e)))
+          sym (pick_false _ _ (ne_same w (ascii "ax25") no_ax25)
+          ∙ (pick_false _ _ (ne_same w (ascii "long") no_long) ∙ pick_false _ _ (ne_same w (ascii "generic") e)))
 
 module _ (d : List ℕ) where
   pub digits_none : length d ≡ 0 → digits_of d ≡ []

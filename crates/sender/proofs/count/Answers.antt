@@ -1,0 +1,14 @@
+-- `sender::count` meets its contract.
+-- Assumes nothing.
+use borrow.Author.Rules.{rules}
+use native.Mathlib.Omega.{arith}
+use mathlib.Core.Path.{sym}
+use Rattle.sender.proofs.CountLaws.{count_one, count_many}
+use Rattle.sender.proofs.count.Goals as goal
+
+pub returns-then-total-field : goal.returns-then-total-field
+returns-then-total-field c = sym (count_one c.args.total c.args.field c.if-total-field.true)
+
+pub returns : goal.returns
+returns c =
+    omega (arith, c.frags_needed.ensures, count_many c.args.total c.args.field c.if-total-field.false)

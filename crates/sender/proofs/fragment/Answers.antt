@@ -1,0 +1,44 @@
+-- `sender::fragment` meets its contract.
+-- Assumes nothing.
+use borrow.Author.Rules.{rules}
+use native.Mathlib.Omega.{arith}
+use mathlib.Core.Bool.{true}
+use mathlib.Core.Path.{◌≡◌, sym, ◌∙◌}
+use borrow.Author.Tests.{not-true, not-false}
+use Rattle.refusals.specs.Limits.{field_ok, mask_ok}
+use Rattle.refusals.proofs.OutcomeLaws.{into_refuses}
+use Rattle.sender.proofs.SendLaws.{send_field, send_mask, send_empty, send_long, send_high}
+use Rattle.sender.proofs.fragment.Goals as goal
+
+pub returns-then-not-field_ok : goal.returns-then-not-field_ok
+returns-then-not-field_ok c =
+    let a = c.args in
+    into_refuses a.out.now 8
+    (send_field a.message.now a.field a.mask a.k (sym c.field_ok.ensures ∙ c.if-not-field_ok.true))
+
+pub returns-then-not-mask_ok : goal.returns-then-not-mask_ok
+returns-then-not-mask_ok c =
+    let a = c.args in
+    into_refuses a.out.now 9
+    (send_mask a.message.now a.field a.mask a.k ((let fact : field_ok c.args.field ≡ true = sym c.field_ok.ensures ∙ c.if-not-field_ok.false in fact)) (sym c.mask_ok.ensures ∙ c.if-not-mask_ok.true))
+
+pub returns-then-len-eq0 : goal.returns-then-len-eq0
+returns-then-len-eq0 c =
+    let a = c.args in
+    into_refuses a.out.now 10
+    (send_empty a.message.now a.field a.mask a.k ((let fact : field_ok c.args.field ≡ true = sym c.field_ok.ensures ∙ c.if-not-field_ok.false in fact)) ((let fact : mask_ok c.args.mask ≡ true = sym c.mask_ok.ensures ∙ c.if-not-mask_ok.false in fact)) c.if-len-eq0.true)
+
+pub returns-then-len-gt-MAX_MESSAGE : goal.returns-then-len-gt-MAX_MESSAGE
+returns-then-len-gt-MAX_MESSAGE c =
+    let a = c.args in
+    into_refuses a.out.now 2
+    (send_long a.message.now a.field a.mask a.k ((let fact : field_ok c.args.field ≡ true = sym c.field_ok.ensures ∙ c.if-not-field_ok.false in fact)) ((let fact : mask_ok c.args.mask ≡ true = sym c.mask_ok.ensures ∙ c.if-not-mask_ok.false in fact)) c.if-len-gt-MAX_MESSAGE.true)
+
+pub returns-then-message-ge128 : goal.returns-then-message-ge128
+returns-then-message-ge128 c =
+    let a = c.args in
+    into_refuses a.out.now 11
+    (send_high a.message.now a.field a.mask a.k ((let fact : field_ok c.args.field ≡ true = sym c.field_ok.ensures ∙ c.if-not-field_ok.false in fact)) ((let fact : mask_ok c.args.mask ≡ true = sym c.mask_ok.ensures ∙ c.if-not-mask_ok.false in fact)) (omega arith) c.if-len-gt-MAX_MESSAGE.false c.if-message-ge128.true)
+
+pub numbered-requires : goal.numbered-requires
+numbered-requires c = record { field_value = ((let fact : field_ok c.args.field ≡ true = sym c.field_ok.ensures ∙ c.if-not-field_ok.false in fact), (let fact : mask_ok c.args.mask ≡ true = sym c.mask_ok.ensures ∙ c.if-not-mask_ok.false in fact)); message_nonzero = (omega arith, (c.if-len-gt-MAX_MESSAGE.false, c.if-message-ge128.false)) }

@@ -1,0 +1,16 @@
+-- `texts::part::find` meets its contract.
+-- Assumes nothing.
+use borrow.Author.Rules.{rules}
+use mathlib.Core.Path.{◌≡◌, refl, ap}
+use native.Mathlib.Omega.{arith}
+use Prim.Native.Nat.{◌+◌, ◌≤◌, ◌-◌}
+use lib.ListN.{length, drop}
+use Rattle.texts.specs.Part.{before}
+use Rattle.texts.proofs.PartLaws.{before_end, before_here, before_on}
+use Rattle.texts.proofs.part.find.Given as goal
+
+abbrev pub invariant-loop-i : goal.invariant-loop-i
+invariant-loop-i l = (l.from ≤ l.i) × (l.i ≤ length l.s) × (l.from + length (before l.b (drop l.from l.s)) ≡ l.i + length (before l.b (drop l.i l.s)))
+
+abbrev pub decreases-loop-i : goal.decreases-loop-i
+decreases-loop-i l = length l.s - l.i

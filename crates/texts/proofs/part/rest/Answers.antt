@@ -1,0 +1,9 @@
+-- `texts::part::rest` meets its contract.
+-- Assumes nothing.
+use borrow.Author.Rules.{rules}
+use mathlib.Core.Path.{◌∙◌}
+use Rattle.laws.proofs.ListLaws.{from_place}
+use Rattle.texts.proofs.part.rest.Goals as goal
+
+pub returns : goal.returns
+returns c = from_place c.args.s.now c.next-at.result ∙ c.next-at.ensures.2
