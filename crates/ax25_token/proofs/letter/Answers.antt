@@ -1,0 +1,7 @@
+-- `ax25_token::letter` meets its contract.
+-- Assumes nothing.
+use borrow.Author.Rules.{rules}
+use Rattle.ax25_token.proofs.letter.Goals as goal
+
+pub returns : goal.returns
+returns c = rw c.requires.0

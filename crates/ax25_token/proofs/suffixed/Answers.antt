@@ -1,0 +1,24 @@
+-- `ax25_token::suffixed` meets its contract.
+-- Assumes nothing.
+use borrow.Author.Rules.{rules}
+use native.Mathlib.Omega.{arith}
+use mathlib.Core.Path.{refl}
+use Prim.Native.Nat.{◌+◌, ◌/◌}
+use Rattle.ax25_token.specs.Call.{pushed}
+use Rattle.ax25_token.proofs.CallLaws.{append_none, append_one, append_two, append_digits}
+use Rattle.ax25_token.proofs.suffixed.Goals as goal
+
+pub returns-then-v-eq0 : goal.returns-then-v-eq0
+returns-then-v-eq0 c = (append_none _ _ c.if-v-eq0.true, omega arith)
+
+pub returns-then-v-lt10 : goal.returns-then-v-lt10
+returns-then-v-lt10 c =
+    let a = c.args.c in
+    (append_one a _ c.if-v-eq0.false c.if-v-lt10.true (pushed a 45) _ refl refl, omega arith)
+
+pub returns : goal.returns
+returns c =
+    let a = c.args.c in
+    let v = c.args.v in
+    let d = pushed a 45 in
+    (append_two a v c.if-v-eq0.false c.if-v-lt10.false d _ refl (append_digits d (pushed d (48 + v / 10)) _ v refl refl), omega arith)
