@@ -70,7 +70,7 @@ module _ (strict : Bool) (n : ℕ) (b : List Bool) where
 
     pub letters_skip : strict ≡ false → 37 ≤ v → read_letters strict n b ≡ read_letters strict (n - 1) r
     unfolding read_letters letter_of pick go_on
-    letters_skip s k = one_more (read_letters strict (n - 1) r) any (rw (e, ne_eqb v 0 (λ z. omega arith), le-ltb v 37 k, s))
+    letters_skip s k = one_more (read_letters strict (n - 1) r) any (rw (e, ne_eqb v 0 (λ z. omega arith), le-ltb v 37 k, s) (ap (λ (x : Bool). read_letters x (n - 1) r) s))
 
 -- ---- a spelled call
 

@@ -18,8 +18,8 @@ use Rattle.ax25_token.proofs.letters.Given as goal
 abbrev pub invariant-loop-left : goal.invariant-loop-left
 invariant-loop-left l =
     (l.len + l.left ≤ 16) × (l.len + l.left ≤ l.initial.len + l.n) × (length l.bytes ≡ 16)
-    × ((r : Decoded) → Onto (unpack l.s) (record { l.bytes = l.bytes; l.len = l.len }) l.left (read_letters l.strict l.left (drop l.p (unpack l.s))) r
-    → Onto (unpack l.s) (record { l.bytes = l.initial.bytes; l.len = l.initial.len }) l.n (read_letters l.strict l.n (drop l.at (unpack l.s))) r)
+    × ((r : Decoded) → Onto (unpack l.s) (record { bytes = l.bytes; len = l.len }) l.left (read_letters l.strict l.left (drop l.p (unpack l.s))) r
+    → Onto (unpack l.s) (record { bytes = l.initial.bytes; len = l.initial.len }) l.n (read_letters l.strict l.n (drop l.at (unpack l.s))) r)
 
 abbrev pub decreases-loop-left : goal.decreases-loop-left
 decreases-loop-left l = l.left

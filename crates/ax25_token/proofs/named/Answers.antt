@@ -31,5 +31,5 @@ returns-in_default c = absurd (omega arith)
 
 pub returns-in_default-2 : goal.returns-in_default-2
 returns-in_default-2 c =
-    let other = c.in_default-1.rest in
+    let other = c.in_default.in_default-own.rest in
     named_fixed _ _ c.args.at _ _ c.name-c.ensures.0 c.name-c.ensures.1 _ (fixed_form_lem _ (omega arith) (omega arith) other.0.0.1 other.0.1 other.1)

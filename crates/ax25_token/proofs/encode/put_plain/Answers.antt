@@ -18,15 +18,15 @@ put_ap-requires c =
 pub returns-in_default : goal.returns-in_default
 returns-in_default c =
     let a = c.args in
-    rw (plain_uncounted a.l a.c.now _ c.?Numbered-of.ensures.0 c.in_default.is) c.put_ap.ensures
+    rw (plain_uncounted a.l a.c.now _ c.numbered_of.ensures.result_value c.in_default.is) c.put_ap.ensures
 
 pub push-requires : goal.push-requires
 push-requires c =
-    let small = small_count _ _ _ _ c.?Numbered-of.ensures.1 c.in-Count.is in
+    let small = small_count _ _ _ _ c.numbered_of.ensures.small_count c.in-Count.is in
     (omega (arith, small), omega (arith, c.push-p.ensures.value, c.requires.2))
 
 pub returns : goal.returns
 returns c =
     let a = c.args in
-    rw (plain_counted a.l a.c.now _ c.?Numbered-of.ensures.0 _ _ _ c.in-Count.is)
+    rw (plain_counted a.l a.c.now _ c.numbered_of.ensures.result_value _ _ _ c.in-Count.is)
     (wrote_then c.push-p.ensures.wrote c.push.ensures.wrote)

@@ -6,19 +6,19 @@ use borrow.Author.Rules.{rules}
 use Rattle.ax25_token.proofs.names.pair_of.Goals as goal
 
 pub returns-then-is_wide : goal.returns-then-is_wide
-returns-then-is_wide c = row_wide _ (sym c.?is_IsWide.ensures ∙ c.if-is_wide.true)
+returns-then-is_wide c = let whole = row_wide _ (sym c.is_wide.ensures ∙ c.if-is_wide.true) in record { c_value = whole.0; small_row = whole.1 }
 
 pub returns-then-is_pair : goal.returns-then-is_pair
-returns-then-is_pair c = row_pnw _ (sym c.?is_IsWide.ensures ∙ c.if-is_wide.false) (sym c.is_pair.ensures ∙ c.if-is_pair.true)
+returns-then-is_pair c = let whole = row_pnw _ (sym c.is_wide.ensures ∙ c.if-is_wide.false) (sym c.is_pair.ensures ∙ c.if-is_pair.true) in record { c_value = whole.0; small_row = whole.1 }
 
 pub returns-then-is_pair-2 : goal.returns-then-is_pair-2
-returns-then-is_pair-2 c = row_mw _ (sym c.?is_IsWide.ensures ∙ c.if-is_wide.false) (sym c.is_pair.ensures ∙ c.if-is_pair.false) (sym c.is_pair-2.ensures ∙ c.if-is_pair-2.true)
+returns-then-is_pair-2 c = let whole = row_mw _ (sym c.is_wide.ensures ∙ c.if-is_wide.false) (sym c.is_pair.ensures ∙ c.if-is_pair.false) (sym c.is_pair-2.ensures ∙ c.if-is_pair-2.true) in record { c_value = whole.0; small_row = whole.1 }
 
 pub returns-then-is_pair-3 : goal.returns-then-is_pair-3
-returns-then-is_pair-3 c = row_or _ (sym c.?is_IsWide.ensures ∙ c.if-is_wide.false) (sym c.is_pair.ensures ∙ c.if-is_pair.false) (sym c.is_pair-2.ensures ∙ c.if-is_pair-2.false) (sym c.is_pair-3.ensures ∙ c.if-is_pair-3.true)
+returns-then-is_pair-3 c = let whole = row_or _ (sym c.is_wide.ensures ∙ c.if-is_wide.false) (sym c.is_pair.ensures ∙ c.if-is_pair.false) (sym c.is_pair-2.ensures ∙ c.if-is_pair-2.false) (sym c.is_pair-3.ensures ∙ c.if-is_pair-3.true) in record { c_value = whole.0; small_row = whole.1 }
 
 pub returns-then-is_pair-4 : goal.returns-then-is_pair-4
-returns-then-is_pair-4 c = row_wa _ (sym c.?is_IsWide.ensures ∙ c.if-is_wide.false) (sym c.is_pair.ensures ∙ c.if-is_pair.false) (sym c.is_pair-2.ensures ∙ c.if-is_pair-2.false) (sym c.is_pair-3.ensures ∙ c.if-is_pair-3.false) (sym c.is_pair-4.ensures ∙ c.if-is_pair-4.true)
+returns-then-is_pair-4 c = let whole = row_wa _ (sym c.is_wide.ensures ∙ c.if-is_wide.false) (sym c.is_pair.ensures ∙ c.if-is_pair.false) (sym c.is_pair-2.ensures ∙ c.if-is_pair-2.false) (sym c.is_pair-3.ensures ∙ c.if-is_pair-3.false) (sym c.is_pair-4.ensures ∙ c.if-is_pair-4.true) in record { c_value = whole.0; small_row = whole.1 }
 
 pub returns : goal.returns
-returns c = row_none _ (sym c.?is_IsWide.ensures ∙ c.if-is_wide.false) (sym c.is_pair.ensures ∙ c.if-is_pair.false) (sym c.is_pair-2.ensures ∙ c.if-is_pair-2.false) (sym c.is_pair-3.ensures ∙ c.if-is_pair-3.false) (sym c.is_pair-4.ensures ∙ c.if-is_pair-4.false)
+returns c = let whole = row_none _ (sym c.is_wide.ensures ∙ c.if-is_wide.false) (sym c.is_pair.ensures ∙ c.if-is_pair.false) (sym c.is_pair-2.ensures ∙ c.if-is_pair-2.false) (sym c.is_pair-3.ensures ∙ c.if-is_pair-3.false) (sym c.is_pair-4.ensures ∙ c.if-is_pair-4.false) in record { c_value = whole.0; small_row = whole.1 }
