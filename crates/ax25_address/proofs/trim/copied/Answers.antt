@@ -1,0 +1,37 @@
+-- `ax25_address::trim::copied` meets its contract: the call holds the bytes before the place.
+-- Assumes nothing.
+use borrow.Author.Rules.{rules}
+use native.Mathlib.Omega.{arith}
+use mathlib.Core.Path.{◌≡◌, refl, ap, ◌∙◌}
+use mathlib.Core.List.{List, map}
+use Prim.Native.Nat.{ℕ, ◌-◌, ◌≤◌}
+use lib.ListN.{length, take, length-set}
+use lib.Seq.{take_all}
+use Rattle.ax25_token.specs.declared.Call.{Call}
+use Rattle.ax25_token.specs.Call.{empty, pushed, appended}
+use Rattle.ax25_token.specs.Put.{cased_of}
+use Rattle.ax25_address.proofs.LetterLaws.{none_taken, letter_more}
+use Rattle.ax25_address.proofs.trim.copied.Goals as goal
+
+pub loop-i-init : goal.loop-i-init
+loop-i-init c =
+    let a = c.args in
+    (omega arith, refl, none_taken (cased_of a.up) a.s.now)
+
+pub loop-i-preserved : goal.loop-i-preserved
+loop-i-preserved c =
+    let a = c.args in
+    let l = c.loop-i in
+    let held : Call = record { bytes = l.bytes; len = l.i } in (
+      omega arith,
+      length-set l.bytes l.i c.cased.result ∙ l.invariant.1,
+      letter_more (cased_of a.up) a.s.now l.i (omega arith) held _ l.invariant.2 (ap (pushed held) c.cased.ensures),
+    )
+
+pub returns : goal.returns
+returns c =
+    let l = c.loop-i in
+    let a = c.args in
+    let s = a.s.now in
+    let all = take_all l.i s c.loop-i-test.false in
+    (l.invariant.2 ∙ ap (λ (t : List ℕ). appended empty (map (cased_of a.up) t)) all, omega arith)
