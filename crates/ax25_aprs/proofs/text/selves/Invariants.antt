@@ -1,0 +1,19 @@
+-- `ax25_aprs::text::selves` meets its contract. The first n codes stand for themselves.
+-- Assumes nothing.
+use borrow.Author.Rules.{rules}
+use borrow.Author.Tests.{not-false}
+use native.Mathlib.Omega.{arith}
+use mathlib.Core.Path.{◌≡◌, sym}
+use Prim.Native.Nat.{◌+◌, ◌-◌, ◌*◌, ◌/◌, ◌≤◌}
+use lib.ListN.{length, take, drop}
+use lib.Seq.{drop-drop}
+use Rattle.laws.specs.Bits.{unpack}
+use Rattle.ax25_aprs.specs.Selves.{Selves}
+use Rattle.ax25_aprs.proofs.SelfLaws.{selves_front, selves_add}
+use Rattle.ax25_aprs.proofs.text.selves.Given as goal
+
+abbrev pub invariant-loop-i : goal.invariant-loop-i
+invariant-loop-i l = (l.i ≡ l.at + l.n * 7) × (l.n * 7 ≤ length l.s * 8 - l.at) × Selves l.n (drop l.at (unpack l.s))
+
+abbrev pub decreases-loop-i : goal.decreases-loop-i
+decreases-loop-i l = length l.s * 8 - l.i
