@@ -1,6 +1,6 @@
 -- Bodies by cases, for the code.
 -- Assumes nothing.
-use mathlib.Core.Path.{◌≡◌, ap, ◌∙◌}
+use mathlib.Core.Path.{◌≡◌, refl, ap, ◌∙◌}
 use mathlib.Core.Logic.{inl, inr}
 use mathlib.Core.Bool.{Bool, false}
 use mathlib.Core.List.{List, [], ◌∷◌, ◌++◌, append-nil}
@@ -10,8 +10,6 @@ use native.Mathlib.Omega.{arith}
 use lib.ListN.{length, take, drop, replicate, length-replicate}
 use lib.Seq.{take_all}
 use borrow.Author.Tests.{ne_eqb}
-use denote.Enum.Declared.{tag_of}
-use types.Run.{OneOf}
 use Rattle.laws.specs.Pick.{pick}
 use Rattle.laws.specs.Text.{filled}
 use Rattle.ax25_token.specs.Token.{read_token}
@@ -57,25 +55,19 @@ module _ (mended : Bool) (l : ℕ) (b : List Bool) where
 
 -- ---- a type of none of three numbers
 
--- the variants that the last arm takes: Binary, Message, ThirdParty
+-- the types that the last arm takes: Binary, Message, ThirdParty
 abbrev pub Others : AprsType → Type 0
-Others t = OneOf (1 ∷ 4 ∷ 5 ∷ []) (tag_of the_type t)
+Others t = (t ≡ kind.Text → ⊥) × (t ≡ kind.Position → ⊥) × (t ≡ kind.TimestampedPosition → ⊥)
 
 abbrev pub Beside : ℕ → Type 0
 Beside n = (n ≡ Text → ⊥) × (n ≡ Position → ⊥) × (n ≡ TimestampedPosition → ⊥)
 
-beside : (n : ℕ) → OneOf (1 ∷ 4 ∷ 5 ∷ []) n → Beside n
-beside n (inl e) = (λ f. omega (arith, e, f), λ f. omega (arith, e, f), λ f. omega (arith, e, f))
-beside n (inr (inl e)) = (λ f. omega (arith, e, f), λ f. omega (arith, e, f), λ f. omega (arith, e, f))
-beside n (inr (inr e)) = (λ f. omega (arith, e, f), λ f. omega (arith, e, f), λ f. omega (arith, e, f))
-
--- the number of ThirdParty is not its place
 pub other_number : (t : AprsType) → Others t → Beside (type_number t)
-other_number kind.Text h = beside 0 h
-other_number kind.Binary h = beside 1 h
-other_number kind.Position h = beside 2 h
-other_number kind.TimestampedPosition h = beside 3 h
-other_number kind.Message h = beside 4 h
+other_number kind.Text h = absurd (h.0 refl)
+other_number kind.Binary h = (λ f. omega (arith, f), λ f. omega (arith, f), λ f. omega (arith, f))
+other_number kind.Position h = absurd (h.1 refl)
+other_number kind.TimestampedPosition h = absurd (h.2 refl)
+other_number kind.Message h = (λ f. omega (arith, f), λ f. omega (arith, f), λ f. omega (arith, f))
 other_number kind.ThirdParty h = (λ f. omega (arith, f), λ f. omega (arith, f), λ f. omega (arith, f))
 
 -- ---- a body by its type
