@@ -98,7 +98,7 @@ module _ {mended : Bool} {d : List ℕ} (f : Plain mended d) where
   record Body (out : List Bool) : Type 0 where
     all : List Bool
     rest : List Bool
-    coded_bits_lem : frame_bits 6 (plain_parsed f) typ out ≡ answer all
+    bits_coded : frame_bits 6 (plain_parsed f) typ out ≡ answer all
     unpacked : unpack (pack all) ≡ out ++ rest
     read : read_info mended 6 typ (out ++ rest) rest ≡ some f.info
 
@@ -117,7 +117,7 @@ module _ {mended : Bool} {d : List ℕ} (f : Plain mended d) where
   module _ (b : HeadBack mended f.dest f.src f.digis typ (plain_parsed f)) (y : Body b.out) where
     frame_coded : encode_of Ax25 d ≡ answer (record { bytes = head ∷ pack y.all; typ = typ })
     unfolding encode_of code_parsed type_of pick
-    frame_coded = rw (plain_parsed_lem f, and-true ap?, b.is, y.coded-bits)
+    frame_coded = rw (plain_parsed_lem f, and-true ap?, b.is, y.bits_coded)
 
     frame_read : read_frame mended 6 head (unpack (pack y.all)) ≡ some d
     unfolding read_frame pick
@@ -149,7 +149,7 @@ module _ {mended : Bool} {d : List ℕ} (f : Plain mended d) where
       record {
         all = out ++ t;
         rest = t;
-        coded_bits_lem = rw e;
+        bits_coded = rw e;
         unpacked = unpack_whole (out ++ t) (omega (arith, length-append out t, length_text7 (length out) (last_or false out) f.info));
         read = rw (e, at) (text7_back out f.info low);
       }
@@ -163,7 +163,7 @@ module _ {mended : Bool} {d : List ℕ} (f : Plain mended d) where
       record {
         all = out ++ unpack f.info;
         rest = unpack f.info ++ replicate z.0 false;
-        coded_bits_lem = rw e;
+        bits_coded = rw e;
         unpacked = z.2 ∙ append_assoc out (unpack f.info) (replicate z.0 false);
         read = rw (e, whole) (ap some (pack_n_front f.info (replicate z.0 false) f.octets));
       }
@@ -177,7 +177,7 @@ module _ {mended : Bool} {d : List ℕ} (f : Plain mended d) where
       record {
         all = out ++ y.coded;
         rest = y.coded ++ replicate z.0 false;
-        coded_bits_lem = rw (o.not_text, o.not_bytes, o.not_third, y.is_coded);
+        bits_coded = rw (o.not_text, o.not_bytes, o.not_third, y.is_coded);
         unpacked = z.2 ∙ append_assoc out y.coded (replicate z.0 false);
         read = rw (o.not_text, o.not_bytes, o.not_third) (y.is_read z.0);
       }

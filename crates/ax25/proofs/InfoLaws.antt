@@ -10,8 +10,6 @@ use native.Mathlib.Omega.{arith}
 use lib.ListN.{length, drop}
 use lib.Seq.{drop-drop, drop-cons}
 use lib.Dec.{eqb}
-use denote.Enum.Declared.{tag_of}
-use types.Run.{OneOf}
 use Rattle.laws.specs.Bits.{unpack}
 use Rattle.laws.specs.Pick.{pick}
 use Rattle.laws.specs.Wrote.{Wrote}
@@ -58,19 +56,14 @@ pub record Own (typ : ℕ) : Type 0 where
   pub not_third : eqb typ ThirdParty ≡ false
   pub more : 2 ≤ typ
 
--- the places of these three among the types
-pub own_place : (n : ℕ) → OneOf (2 ∷ 3 ∷ 4 ∷ []) n → (2 ≤ n) × (n ≤ 4)
-own_place n (inl e) = (omega (arith, e), omega (arith, e))
-own_place n (inr (inl e)) = (omega (arith, e), omega (arith, e))
-own_place n (inr (inr e)) = (omega (arith, e), omega (arith, e))
-
-pub own_type : (t : AprsType) → OneOf (2 ∷ 3 ∷ 4 ∷ []) (tag_of the_type t) → Own (type_number t)
-own_type kind.Text h = absurd (omega (arith, (own_place 0 h).0))
-own_type kind.Binary h = absurd (omega (arith, (own_place 1 h).0))
+-- the other three have not
+pub own_type : (t : AprsType) → (t ≡ kind.Text → ⊥) × (t ≡ kind.Binary → ⊥) × (t ≡ kind.ThirdParty → ⊥) → Own (type_number t)
+own_type kind.Text h = absurd (h.0 refl)
+own_type kind.Binary h = absurd (h.1 refl)
 own_type kind.Position h = record { not_text = refl; not_binary = refl; not_third = refl; more = omega arith }
 own_type kind.TimestampedPosition h = record { not_text = refl; not_binary = refl; not_third = refl; more = omega arith }
 own_type kind.Message h = record { not_text = refl; not_binary = refl; not_third = refl; more = omega arith }
-own_type kind.ThirdParty h = absurd (omega (arith, (own_place 5 h).1))
+own_type kind.ThirdParty h = absurd (h.2 refl)
 
 -- they have a type byte
 after_own : (typ : ℕ) (d : List ℕ) → eqb typ Text ≡ false → after_type typ d ≡ drop 1 d
