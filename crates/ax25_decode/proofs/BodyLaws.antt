@@ -6,8 +6,6 @@ use mathlib.Core.List.{List, [], ◌∷◌, ◌++◌, append_assoc}
 use mathlib.Core.Option.{Option, none, some}
 use Prim.Native.Nat.{ℕ, ◌+◌, ◌-◌, ◌/◌, ◌≤◌}
 use native.Mathlib.Omega.{arith}
-use denote.Enum.Declared.{tag_of}
-use types.Run.{OneOf}
 use lib.ListN.{length, drop, length-drop}
 use Rattle.laws.specs.Bits.{odd, pack_n}
 use Rattle.laws.specs.Pick.{pick, ◌>>=◌}
@@ -18,14 +16,12 @@ use Rattle.bits.specs.declared.read.Got.{Got}
 use Rattle.ax25_address.specs.Kind.{type_number}
 use Rattle.ax25_address.specs.declared.classify.AprsType.{AprsType}
 use Rattle.ax25_address.specs.declared.classify.AprsType.TheVariants as kind
-use Rattle.ax25_address.specs.contracts.classify.AprsType.{the_type}
 use Rattle.ax25_aprs.specs.Body.{read_body}
 use Rattle.ax25_aprs.specs.Put.{Reads}
 use Rattle.ax25_aprs.specs.Third.{read_third}
 use Rattle.ax25_aprs.proofs.PartLaws.{reads_then}
 use Rattle.ax25.specs.Decode as decode
 use Rattle.ax25.specs.Decode.{digi_count, bytes_in, addresses, read_head, read_info, read_frame}
-use Rattle.ax25.proofs.InfoLaws.{own_place}
 use Rattle.ax25_decode.specs.Put.{HeadRead, Heads}
 use Rattle.ax25_decode.specs.declared.Head.{Head}
 use Rattle.ax25_decode.specs.declared.Head.TheVariants.{Is, Nothing}
@@ -54,14 +50,14 @@ module _ (mended : Bool) (l : ℕ) (b : List Bool) (p : ℕ) where
   unfolding read_info pick
   info_third t e = rw e
 
-  pub info_body : (t : AprsType) → OneOf (2 ∷ 3 ∷ 4 ∷ []) (tag_of the_type t) → read_info mended l (type_number t) b (drop p b) ≡ read_body mended (type_number t) l (drop p b)
+  pub info_body : (t : AprsType) → (t ≡ kind.Text → ⊥) × (t ≡ kind.Binary → ⊥) × (t ≡ kind.ThirdParty → ⊥) → read_info mended l (type_number t) b (drop p b) ≡ read_body mended (type_number t) l (drop p b)
   unfolding read_info pick
-  info_body kind.Text h = absurd (omega (arith, (own_place 0 h).0))
-  info_body kind.Binary h = absurd (omega (arith, (own_place 1 h).0))
+  info_body kind.Text h = absurd (h.0 refl)
+  info_body kind.Binary h = absurd (h.1 refl)
   info_body kind.Position h = refl
   info_body kind.TimestampedPosition h = refl
   info_body kind.Message h = refl
-  info_body kind.ThirdParty h = absurd (omega (arith, (own_place 5 h).1))
+  info_body kind.ThirdParty h = absurd (h.2 refl)
 
 pub text7_reads : (o : Option (List ℕ)) (out : List ℕ) (to : ℕ) (e : List ℕ) (r : Got) → r ≡ text7_next to o → e ≡ text7_left out to o → Reads o out to e r
 unfolding text7_next text7_left
