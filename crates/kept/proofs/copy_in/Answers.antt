@@ -6,7 +6,6 @@ use Prim.Native.Nat.{ℕ, ◌*◌}
 use native.Mathlib.Omega.{arith}
 use lib.ListN.{take}
 use lib.Seq.{sets, take_all}
-use borrow.Author.Rules.{rules}
 use Rattle.kept.proofs.Parts.{stored_whole}
 use Rattle.kept.proofs.copy_in.Goals as goal
 

@@ -5,7 +5,6 @@ use Prim.Native.Nat.{ℕ, ◌+◌, ◌-◌, ◌*◌}
 use native.Mathlib.Omega.{arith}
 use lib.ListN.{take, drop}
 use Rattle.kept.proofs.Parts.{length_part, stored_whole}
-use borrow.Author.Rules.{rules}
 use Rattle.kept.proofs.copy_out.Goals as goal
 
 pub returns : goal.returns

@@ -1,7 +1,5 @@
 -- `kept::placed` meets its contract.
 -- Assumes nothing.
-use borrow.Author.Rules.{rules}
-use borrow.Author.Tests.{not-true, not-false}
 use mathlib.Core.Path.{sym, ap, ◌∙◌}
 use Rattle.kept.specs.Keep.{place_or}
 use Rattle.kept.specs.Told.{place_in, to_named}

@@ -1,14 +1,8 @@
 -- `kept::same_name` meets its contract. The first i bytes are the same.
 -- Assumes nothing.
-use mathlib.Core.Path.{◌≡◌, sym, ap, ◌∙◌}
-use mathlib.Core.List.{List}
+use mathlib.Core.Path.{◌≡◌}
 use Prim.Native.Nat.{ℕ, ◌-◌, ◌<◌, ◌≤◌}
-use lib.ListN.{length, get_or, take}
-use lib.Seq.{get_or-take, ext_get_or, length-take-le}
-use borrow.Author.Rules.{rules}
-use borrow.Author.Count.{below_more}
-use native.Mathlib.Omega.{arith}
-use Rattle.laws.proofs.TextLaws.{ne_same, eq_same}
+use lib.ListN.{get_or}
 use Rattle.kept.proofs.same_name.Given as goal
 
 abbrev pub invariant-loop-i : goal.invariant-loop-i

@@ -1,13 +1,9 @@
 -- `kept::Kept::find` meets its contract. The slots before i are not under the name.
 -- Assumes nothing.
-use borrow.Author.Rules.{rules}
-use native.Mathlib.Omega.{arith}
-use mathlib.Core.Path.{◌≡◌, refl, sym, ◌∙◌}
+use mathlib.Core.Path.{◌≡◌}
 use Prim.Native.Nat.{◌≤◌, ◌-◌}
-use lib.ListN.{length, drop, length-map}
+use lib.ListN.{drop}
 use Rattle.kept.specs.Keep.{is_under, first_from}
-use Rattle.kept.proofs.Places.{first_here, first_on, first_end}
-use Rattle.kept.proofs.NoSlot.{no_slot}
 use Rattle.kept.proofs.Kept.find.Given as goal
 
 abbrev pub invariant-loop-i : goal.invariant-loop-i

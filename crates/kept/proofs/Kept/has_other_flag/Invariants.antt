@@ -1,15 +1,10 @@
 -- `kept::Kept::has_other_flag` meets its contract. The flags of the slots before i are 0 or 1.
 -- Assumes nothing.
-use borrow.Author.Rules.{rules}
-use borrow.Author.Tests.{lt-ltb, le-ltb}
-use native.Mathlib.Omega.{arith}
-use mathlib.Core.Path.{◌≡◌, refl, sym, ap, ◌∙◌}
+use mathlib.Core.Path.{◌≡◌}
 use Prim.Native.Nat.{◌≤◌, ◌-◌}
-use lib.ListN.{length, drop, length-map}
+use lib.ListN.{drop}
 use Rattle.kept.specs.Keep.{first_from}
-use Rattle.kept.specs.Told.{is_place, has_other_flag}
-use Rattle.kept.proofs.Places.{first_here, first_on, first_end}
-use Rattle.kept.proofs.NoSlot.{no_slot}
+use Rattle.kept.specs.Told.{has_other_flag}
 use Rattle.kept.proofs.Kept.has_other_flag.Given as goal
 
 abbrev pub invariant-loop-i : goal.invariant-loop-i

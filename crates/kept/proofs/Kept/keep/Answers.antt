@@ -4,9 +4,8 @@ use borrow.Author.Rules.{rules}
 use native.Mathlib.Omega.{arith}
 use mathlib.Core.Path.{◌≡◌, refl, sym, ap, ap₂, ◌∙◌}
 use mathlib.Core.List.{List, map}
-use mathlib.Core.Logic.{⊎_elim}
 use Prim.Native.Nat.{ℕ, max}
-use lib.ListN.{length, set, length-map}
+use lib.ListN.{length, set}
 use Rattle.refusals.specs.Outcome.{Outcome, refused, answer}
 use Rattle.kept.specs.declared.Keeping.{Keeping}
 use Rattle.kept.specs.declared.Kept.{Kept}
@@ -17,6 +16,7 @@ use Rattle.kept.proofs.Answers.{named_ok, named_not, beside_ok, beside_not}
 use Rattle.kept.proofs.Calls.{keep_is, keep_fits, keep_name}
 use Rattle.kept.proofs.Flags.{slot_kept, slots_same, map_set}
 use Rattle.kept.proofs.Kept.keep.Goals as goal
+use Rattle.kept.proofs.Kept.keep.Goals.{then-has_other_flag, else-has_other_flag}
 
 pub named-requires : goal.named-requires
 named-requires c =
@@ -30,11 +30,16 @@ bounds-slots-place c =
     let a = c.args in
     let checked = c.larger-code.ensures ∙ ap₂ max c.refusal.ensures c.lent_refusal-kept.ensures in
     let o = placed c.larger-code.result (length a.name.now) 21 (place_in c.place_for.result) in
-    let e : length a.self.slots ≡ 8 = sym (length-map a.self.slots _) ∙ c.?well-formed.0.1.1.0.1.0.1 in
+    let e : length a.self.slots ≡ 8 = search rules in
     omega (arith, (keep_fits a.self a.receiver a.store.now a.lent.now a.name.now checked c.place_for.ensures refl c.placed-answer.result.place (named_ok o c.placed-answer.ensures c.if-ok.true)).slot)
 
 pub offset_bounds-slots-place : goal.offset_bounds-slots-place
-offset_bounds-slots-place c = let small = array-set-from-slots (goal.at.offset_bounds-slots-place c).After-named in omega arith
+offset_bounds-slots-place c =
+    let a = c.args in
+    let checked = c.larger-code.ensures ∙ ap₂ max c.refusal.ensures c.lent_refusal-kept.ensures in
+    let o = placed c.larger-code.result (length a.name.now) 21 (place_in c.place_for.result) in
+    let e : length a.self.slots ≡ 8 = search rules in
+    omega (arith, (keep_fits a.self a.receiver a.store.now a.lent.now a.name.now checked c.place_for.ensures refl c.placed-answer.result.place (named_ok o c.placed-answer.ensures c.if-ok.true)).slot)
 
 pub copy_in-requires : goal.copy_in-requires
 copy_in-requires c =
@@ -42,7 +47,7 @@ copy_in-requires c =
     let checked = c.larger-code.ensures ∙ ap₂ max c.refusal.ensures c.lent_refusal-kept.ensures in
     let o = placed c.larger-code.result (length a.name.now) 21 (place_in c.place_for.result) in
     let fits = keep_fits a.self a.receiver a.store.now a.lent.now a.name.now checked c.place_for.ensures refl c.placed-answer.result.place (named_ok o c.placed-answer.ensures c.if-ok.true) in
-    (array-set-from-slots (goal.at.copy_in-requires c).After-named, fits.lent, fits.store)
+    (omega (arith, fits.slot), fits.lent, fits.store)
 
 pub returns-after-has_other_flag : goal.returns-after-has_other_flag
 returns-after-has_other_flag c =
@@ -53,10 +58,10 @@ returns-after-has_other_flag c =
     let slot = slot_of a.name.now a.receiver in
     let found = named_ok o c.placed-answer.ensures c.if-ok.true in
     let flags : c.if-has_other_flag.slots ≡ map to_slot a.self.slots =
-    ⊎_elim {C = c.if-has_other_flag.slots ≡ map to_slot a.self.slots}
-    (λ t. t.3 ∙ ap (λ (k : Kept). k.slots) t.1.ensures)
-    (λ t. t.1 ∙ sym (slots_same 0 a.self.slots (sym c.has_other_flag.ensures ∙ t.0.left)))
-    c.if-has_other_flag.branch in
+    elim c.if-has_other_flag.branch [
+      | then-has_other_flag w ↦ w.slots-is ∙ ap (λ (k : Kept). k.slots) w.shown-shown.ensures
+      | else-has_other_flag w ↦ w.slots-is ∙ sym (slots_same 0 a.self.slots (sym c.has_other_flag.ensures ∙ w.if-has_other_flag.false))
+    ] in
     ap₂ {A = Keeping} {B = List ℕ} {C = Keeping × List ℕ} (λ x y. (x, y))
     (beside_ok (answer at) (with_slot a.self at slot) (c.placed-answer.ensures ∙ ap to_named found) c.if-ok.true
     (ap₂ (λ (x : List Slot) (y : Slot). set x at y) flags c.named.ensures ∙ sym (map_set to_slot a.self.slots at slot (slot_kept a.name.now a.receiver))))

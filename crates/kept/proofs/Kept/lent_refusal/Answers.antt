@@ -1,6 +1,5 @@
 -- `kept::Kept::lent_refusal` meets its contract.
 -- Assumes nothing.
-use borrow.Author.Rules.{rules}
 use mathlib.Core.Path.{ap₂, ◌∙◌}
 use Prim.Native.Nat.{max}
 use Rattle.kept.specs.Keep.{lent_refusal}

@@ -1,6 +1,5 @@
 -- `kept::Kept::none` meets its contract.
 -- Assumes nothing.
-use borrow.Author.Rules.{rules}
 use mathlib.Core.Path.{ap}
 use lib.ListN.{replicate}
 use Rattle.kept.specs.declared.Slot.{Slot}

@@ -1,6 +1,5 @@
 -- `kept::Kept::place_for` meets its contract.
 -- Assumes nothing.
-use borrow.Author.Rules.{rules}
 use mathlib.Core.Path.{sym, ap, ◌∙◌}
 use mathlib.Core.List.{[]}
 use mathlib.Core.Option.{Option}

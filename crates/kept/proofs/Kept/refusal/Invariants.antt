@@ -1,13 +1,9 @@
 -- `kept::Kept::refusal` meets its contract. What is left of the slots is still to be looked at.
 -- Assumes nothing.
-use borrow.Author.Rules.{rules}
-use native.Mathlib.Omega.{arith}
-use mathlib.Core.Path.{◌≡◌, sym, ap, ◌∙◌}
-use Prim.Native.Nat.{ℕ, ◌+◌, ◌-◌, ◌≤◌, max}
-use lib.ListN.{length, drop, length-map}
+use mathlib.Core.Path.{◌≡◌}
+use Prim.Native.Nat.{◌-◌, ◌≤◌, max}
+use lib.ListN.{drop}
 use Rattle.kept.specs.Keep.{kept_refusal}
-use Rattle.kept.proofs.Checks.{refusal_on, refusal_end}
-use Rattle.kept.proofs.NoSlot.{no_slot}
 use Rattle.kept.proofs.Kept.refusal.Given as goal
 
 abbrev pub invariant-loop-i : goal.invariant-loop-i

@@ -5,7 +5,7 @@ use native.Mathlib.Omega.{arith}
 use mathlib.Core.Path.{◌≡◌, refl, sym, ap, ap₂, ◌∙◌}
 use mathlib.Core.List.{List}
 use Prim.Native.Nat.{ℕ, max}
-use lib.ListN.{length, length-map}
+use lib.ListN.{length}
 use Rattle.refusals.specs.Outcome.{Outcome, answer}
 use Rattle.receiver.specs.Stored.{receiver_of}
 use Rattle.receiver.specs.declared.Reassembler.{Reassembler}
@@ -23,8 +23,8 @@ copy_out-requires c =
     let a = c.args in
     let checked = c.larger-code.ensures ∙ ap₂ max c.size_refusal-size.ensures c.lent_refusal.ensures in
     let o = placed c.larger-code.result (length a.name.now) 20 (place_in c.find.result) in
-    let e : length a.t1.slots ≡ 8 = sym (length-map a.t1.slots _) ∙ c.?well-formed.0.1.1.0.1.0.1 in
-    let fits = return_fits a.t1 a.store.now a.lent.now a.name.now checked c.find.ensures refl c.placed-answer.result.place (named_ok o c.placed-answer.ensures c.if-answer.true) in
+    let e : length a.self.slots ≡ 8 = search rules in
+    let fits = return_fits a.self a.store.now a.lent.now a.name.now checked c.find.ensures refl c.placed-answer.result.place (named_ok o c.placed-answer.ensures c.if-answer.true) in
     (omega (arith, fits.slot), fits.lent, fits.store)
 
 pub bounds-self-place : goal.bounds-self-place
@@ -32,12 +32,18 @@ bounds-self-place c =
     let a = c.args in
     let checked = c.larger-code.ensures ∙ ap₂ max c.size_refusal-size.ensures c.lent_refusal.ensures in
     let o = placed c.larger-code.result (length a.name.now) 20 (place_in c.find.result) in
-    let e : length a.t1.slots ≡ 8 = sym (length-map a.t1.slots _) ∙ c.?well-formed.0.1.1.0.1.0.1 in
-    let fits = return_fits a.t1 a.store.now a.lent.now a.name.now checked c.find.ensures refl c.placed-answer.result.place (named_ok o c.placed-answer.ensures c.if-answer.true) in
+    let e : length a.self.slots ≡ 8 = search rules in
+    let fits = return_fits a.self a.store.now a.lent.now a.name.now checked c.find.ensures refl c.placed-answer.result.place (named_ok o c.placed-answer.ensures c.if-answer.true) in
     omega (arith, fits.slot)
 
 pub offset_bounds-self-place : goal.offset_bounds-self-place
-offset_bounds-self-place c = let small = element-copy-out-slot (goal.at.offset_bounds-self-place c).After-slice_known-then-answer-1 in omega arith
+offset_bounds-self-place c =
+    let a = c.args in
+    let checked = c.larger-code.ensures ∙ ap₂ max c.size_refusal-size.ensures c.lent_refusal.ensures in
+    let o = placed c.larger-code.result (length a.name.now) 20 (place_in c.find.result) in
+    let e : length a.self.slots ≡ 8 = search rules in
+    let fits = return_fits a.self a.store.now a.lent.now a.name.now checked c.find.ensures refl c.placed-answer.result.place (named_ok o c.placed-answer.ensures c.if-answer.true) in
+    omega (arith, fits.slot)
 
 pub returns-then-answer : goal.returns-then-answer
 returns-then-answer c =
@@ -47,14 +53,14 @@ returns-then-answer c =
     let at = c.placed-answer.result.place in
     let found = named_ok o c.placed-answer.ensures c.if-answer.true in
     ap₂ {A = Reassembler} {B = List ℕ} {C = ReturnLeft} (λ x y. record { outcome = answer x; store = y })
-    (c.receiver.ensures ∙ ap (λ (t : Slot). receiver_of t.receiver) (get_d_any a.t1.slots at no_slot free_slot (return_fits a.t1 a.store.now a.lent.now a.name.now checked c.find.ensures refl at found).slot)) c.copy_out.ensures
-    ∙ ap (λ (x : Outcome ℕ). returned_at x a.t1 a.store.now a.lent.now) (sym found)
-    ∙ return_is a.t1 a.store.now a.lent.now a.name.now checked c.find.ensures refl
+    (c.receiver.ensures ∙ ap (λ (t : Slot). receiver_of t.receiver) (get_d_any a.self.slots at no_slot free_slot (return_fits a.self a.store.now a.lent.now a.name.now checked c.find.ensures refl at found).slot)) c.copy_out.ensures
+    ∙ ap (λ (x : Outcome ℕ). returned_at x a.self a.store.now a.lent.now) (sym found)
+    ∙ return_is a.self a.store.now a.lent.now a.name.now checked c.find.ensures refl
 
 pub returns : goal.returns
 returns c =
     let a = c.args in
     let checked = c.larger-code.ensures ∙ ap₂ max c.size_refusal-size.ensures c.lent_refusal.ensures in
     let o = placed c.larger-code.result (length a.name.now) 20 (place_in c.find.result) in
-    ap (λ (x : Outcome ℕ). returned_at x a.t1 a.store.now a.lent.now) (sym (named_not o c.placed-answer.ensures c.if-answer.false))
-    ∙ return_is a.t1 a.store.now a.lent.now a.name.now checked c.find.ensures refl
+    ap (λ (x : Outcome ℕ). returned_at x a.self a.store.now a.lent.now) (sym (named_not o c.placed-answer.ensures c.if-answer.false))
+    ∙ return_is a.self a.store.now a.lent.now a.name.now checked c.find.ensures refl

@@ -2,10 +2,9 @@
 -- Assumes nothing.
 use borrow.Author.Rules.{rules}
 use native.Mathlib.Omega.{arith}
-use mathlib.Core.Path.{◌≡◌, refl, sym, ap, ap₂, ◌∙◌}
+use mathlib.Core.Path.{◌≡◌, refl, ap, ap₂, ◌∙◌}
 use mathlib.Core.List.{List}
-use Prim.Native.Nat.{◌-◌, ◌≤◌}
-use lib.ListN.{length, get_or, set, length-map}
+use lib.ListN.{length, get_or, set}
 use Rattle.kept.specs.declared.Kept.{Kept}
 use Rattle.kept.specs.declared.Slot.{Slot}
 use Rattle.kept.specs.Told.{to_slot}
@@ -21,7 +20,7 @@ pub loop-i-preserved : goal.loop-i-preserved
 loop-i-preserved c =
     let old = c.args.self.slots in
     let i = c.loop-i.i in
-    let e : length old ≡ 8 = sym (length-map old _) ∙ c.?well-formed.0.1.1.0.1.0.1 in
+    let e : length old ≡ 8 = search rules in
     let here : get_or c.loop-i.slots i no_slot ≡ get_or old i no_slot = ap (λ (x : List Slot). get_or x i no_slot) c.loop-i.invariant.1 ∙ firsts_at to_slot i old no_slot in (
       omega arith,
       ap₂ (λ (x : List Slot) (y : Slot). set x i y) c.loop-i.invariant.1 (c.shown.ensures ∙ ap to_slot here) ∙ firsts_set to_slot i old no_slot (omega arith),
@@ -30,5 +29,5 @@ loop-i-preserved c =
 pub returns : goal.returns
 returns c =
     let old = c.args.self.slots in
-    let e : length old ≡ 8 = sym (length-map old _) ∙ c.?well-formed.0.1.1.0.1.0.1 in
+    let e : length old ≡ 8 = search rules in
     ap {A = List Slot} {B = Kept} (λ x. record { slots = x }) (c.loop-i.invariant.1 ∙ firsts_all to_slot c.loop-i.i old (omega arith))

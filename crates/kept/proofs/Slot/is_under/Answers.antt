@@ -2,7 +2,6 @@
 -- Assumes nothing.
 use borrow.Author.Rules.{rules}
 use mathlib.Core.Path.{sym, ap, ◌∙◌}
-use lib.ListN.{length-map}
 use lib.Dec.{leb}
 use borrow.Author.Tests.{leb-true}
 use Rattle.laws.specs.Text.{same}
@@ -15,7 +14,7 @@ pub same_name-requires : goal.same_name-requires
 same_name-requires c =
     let n = c.args.self.name in (
       leb-true c.args.self.len 8 (and_right (leb 1 c.args.self.len) _ (sym c.name_ok.ensures ∙ c.if-name_ok.true)),
-      sym (length-map n (λ v. v)) ∙ c.?well-formed.0.1.1.1.0.1.0.1,
+      search rules,
     )
 
 pub returns-then-name_ok : goal.returns-then-name_ok

@@ -1,6 +1,5 @@
 -- `kept::Slot::refusal` meets its contract.
 -- Assumes nothing.
-use borrow.Author.Rules.{rules}
 use mathlib.Core.Path.{sym, ap, ◌∙◌}
 use Rattle.laws.proofs.Cases.{pick_true, pick_false}
 use Rattle.receiver.specs.Join.{refusal_of}

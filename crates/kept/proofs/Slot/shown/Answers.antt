@@ -1,6 +1,5 @@
 -- `kept::Slot::shown` meets its contract.
 -- Assumes nothing.
-use borrow.Author.Rules.{rules}
 use Rattle.kept.proofs.Slot.shown.Goals as goal
 
 pub returns : goal.returns
