@@ -9,10 +9,8 @@ use Rattle.kept.specs.declared.Keeping.{Keeping}
 use Rattle.kept.specs.declared.Kept.{Kept}
 use Rattle.kept.specs.declared.Slot.{Slot}
 use Rattle.kept.specs.declared.Place.{Place}
-use Rattle.kept.specs.declared.Place.TheVariants as Place
 use Rattle.kept.specs.declared.Named.{Named}
 use Rattle.kept.specs.declared.Returned.{Returned}
-use Rattle.kept.specs.declared.Returned.TheVariants as Returned
 use Rattle.kept.specs.Keep.{KeepLeft, ReturnLeft, DropLeft}
 
 -- ---- places
