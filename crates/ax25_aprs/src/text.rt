@@ -47,7 +47,7 @@ fn with_altitude(s: &[u8], out: &mut [u8], at: usize) -> Step
 }
 
 // What stands at the front: an altitude, word n or, where n is 0, a byte.
-fn front(s: &[u8], n: usize, position: bool, out: &mut [u8], at: usize) -> Step
+fn front_as(s: &[u8], n: usize, position: bool, out: &mut [u8], at: usize) -> Step
     requires { (n ≡ word_at s.now) × (0 < length s.now) × (at < 2 ^ 61) }
     ensures { Stepped (front_bits position s.now) (front_size position s.now) (unpack out.old) at (unpack out.new) result }
 {
@@ -60,6 +60,14 @@ fn front(s: &[u8], n: usize, position: bool, out: &mut [u8], at: usize) -> Step
     Step::Took(words::size_of(n), bits_write::push(out, at, n as u64, 7))
 }
 
+// What stands at the front: an altitude, a word or a byte.
+fn front(s: &[u8], position: bool, out: &mut [u8], at: usize) -> Step
+    requires { (0 < length s.now) × (at < 2 ^ 61) }
+    ensures { Stepped (front_bits position s.now) (front_size position s.now) (unpack out.old) at (unpack out.new) result }
+{
+    front_as(s, words::word_at(s), position, out, at)
+}
+
 // What stands at the front or, where that is a plain byte, all the plain bytes there at once.
 fn part(s: &[u8], position: bool, out: &mut [u8], at: usize) -> Step
     requires { (0 < length s.now) × (at + length s.now * 7 < 2 ^ 61) }
@@ -67,10 +75,10 @@ fn part(s: &[u8], position: bool, out: &mut [u8], at: usize) -> Step
 {
     let n = words::word_at(s);
     if n != 0 {
-        return front(s, n, position, out, at);
+        return front(s, position, out, at);
     }
     if 0x80 <= s[0] {
-        return front(s, n, position, out, at);
+        return front_as(s, n, position, out, at);
     }
     let size = runs::plain(s);
     Step::Took(size, bits_write::push_sevens(out, at, &s[0..size]))

@@ -53,8 +53,17 @@ fn get_bit(s: &[u8], at: usize) -> u64
     (wide(s[i]) >> j) % 2
 }
 
-// The n bits from a position on, as a number: in the eight bytes from the first of them on or, where fewer are left, in the last eight.
+// The n bits from a position on, as a number, where eight bytes are left.
 fn value_in(s: &[u8], at: usize, n: usize) -> u64
+    requires { (n ≤ 56) × (at / 8 + 8 ≤ length s.now) }
+    ensures { result ≡ value_of (take n (drop at (unpack s.now))) }
+{
+    let v = word(s, at / 8) >> (7 - at % 8);
+    (v >> (57 - n)) % power(n)
+}
+
+// The n bits from a position on, as a number: in the eight bytes from the first of them on or, where fewer are left, in the last eight.
+fn value_near(s: &[u8], at: usize, n: usize) -> u64
     requires { (0 < n) × (n ≤ 56) × (8 ≤ length s.now) × (at + n ≤ length s.now * 8) × (length s.now < 2 ^ 60) }
     ensures { result ≡ value_of (take n (drop at (unpack s.now))) }
 {
@@ -78,16 +87,22 @@ fn value_each(s: &[u8], at: usize, n: usize) -> u64
 
 // The n bits from a position on, as a number.
 fn value(s: &[u8], at: usize, n: usize) -> u64
-    requires { (0 < n) × (n ≤ 64) × (at + n ≤ length s.now * 8) × (length s.now < 2 ^ 60) }
+    requires { (n ≤ 64) × (at + n ≤ length s.now * 8) × (length s.now < 2 ^ 60) }
     ensures { result ≡ value_of (take n (drop at (unpack s.now))) }
 {
     if 56 < n {
         return value_each(s, at, n);
     }
+    if at / 8 + 8 <= s.len() {
+        return value_in(s, at, n);
+    }
     if s.len() < 8 {
         return value_each(s, at, n);
     }
-    value_in(s, at, n)
+    if n == 0 {
+        return 0;
+    }
+    value_near(s, at, n)
 }
 
 // The next n bits, as a number.

@@ -20,17 +20,13 @@ pub byte_at : (s : List ℕ) (i : ℕ) → i < length s → bits_of 8 (get_or s 
 unfolding unpack
 byte_at s i h = rw (← unpack_drop i s, drop-cons s i 0 h) (sym (take_at (bits_of 8 (get_or s i 0)) (unpack (drop (suc i) s)) 8 (length_bits 8 (get_or s i 0))))
 
--- one byte after m, and how large the number is then
-pub byte_more : (s : List ℕ) (i m a : ℕ) {b : ℕ} → (bits_of (m * 8) a ≡ take (m * 8) (drop (i * 8) (unpack s))) × (a < 2 ^ (m * 8))
-    → (bits_of 8 b ≡ take 8 (drop ((i + m) * 8) (unpack s))) × (b < 2 ^ 8)
-    → (bits_of ((m + 1) * 8) (a * 256 + b) ≡ take ((m + 1) * 8) (drop (i * 8) (unpack s))) × (a * 256 + b < 2 ^ ((m + 1) * 8))
-byte_more s i m a e f =
-    let n : (m + 1) * 8 ≡ m * 8 + 8 = omega arith in
+-- m bytes in front of n
+pub bytes_join : (s : List ℕ) (i m n a : ℕ) {b : ℕ} → bits_of (m * 8) a ≡ take (m * 8) (drop (i * 8) (unpack s))
+    → bits_of (n * 8) b ≡ take (n * 8) (drop ((i + m) * 8) (unpack s)) → b < 2 ^ (n * 8)
+    → bits_of (m * 8 + n * 8) (a * 2 ^ (n * 8) + b) ≡ take (m * 8 + n * 8) (drop (i * 8) (unpack s))
+bytes_join s i m n a e f h =
     let p : (i + m) * 8 ≡ i * 8 + m * 8 = omega arith in
-    rw (n, pow-add 2 (m * 8) 8) (
-      bits_join (m * 8) 8 a f.1 ∙ rw (e.0, f.0, p, ← drop-drop (m * 8) (i * 8) (unpack s), take-add (m * 8) 8 (drop (i * 8) (unpack s))),
-      digits_lt e.1 f.1,
-    )
+    rw (bits_join (m * 8) (n * 8) a h, e, f, p, ← drop-drop (m * 8) (i * 8) (unpack s), take-add (m * 8) (n * 8) (drop (i * 8) (unpack s)))
 
 -- what is shifted past m + n bits is lost
 shifted : (m n a : ℕ) → a * 2 ^ n % 2 ^ (m + n) ≡ a % 2 ^ m * 2 ^ n

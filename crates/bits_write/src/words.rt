@@ -25,16 +25,26 @@ pub fn one(s: &[u8], i: usize) -> u64
     wide(s[i])
 }
 
-// Eight bytes from byte i on, as one number.
+// Two bytes from byte i on, as one number.
+fn two(s: &[u8], i: usize) -> u64
+    requires { i + 2 ≤ length s.now }
+    ensures { (bits_of 16 result ≡ take 16 (drop (i * 8) (unpack s.now))) × (result < 2 ^ 16) }
+{
+    one(s, i) * 256 + one(s, i + 1)
+}
+
+// Four.
+fn four(s: &[u8], i: usize) -> u64
+    requires { i + 4 ≤ length s.now }
+    ensures { (bits_of 32 result ≡ take 32 (drop (i * 8) (unpack s.now))) × (result < 2 ^ 32) }
+{
+    two(s, i) * 0x1_0000 + two(s, i + 2)
+}
+
+// Eight.
 pub fn word(s: &[u8], i: usize) -> u64
     requires { i + 8 ≤ length s.now }
     ensures { bits_of 64 result ≡ take 64 (drop (i * 8) (unpack s.now)) }
 {
-    let mut v: u64 = 0;
-    let mut m = 0;
-    while m < 8 {
-        v = v * 256 + one(s, i + m);
-        m += 1;
-    }
-    v
+    four(s, i) * 0x1_0000_0000 + four(s, i + 4)
 }

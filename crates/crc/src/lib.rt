@@ -74,10 +74,10 @@ fn crc_eight(table: &[u16; 256], c: u16, data: &[u8], i: usize) -> u16
 }
 
 // All whole groups of eight bytes.
-fn crc_eights(table: &[u16; 256], data: &[u8]) -> u16
-    requires { table.now ≡ rows }
+fn crc_eights(data: &[u8]) -> u16
     ensures { result ≡ crc_from start (take (length «data».now / 8 * 8) «data».now) }
 {
+    let table = &ROWS;
     let mut c: u16 = 0xFFFF;
     let mut i: usize = 0;
     while 8 <= data.len() - i {
@@ -163,14 +163,11 @@ fn crc_folded(table: &[u16; 256], data: &[u8]) -> u16
     crc_window(table, &w)
 }
 
-// All whole groups of eight bytes, by a window where they are many.
+// All whole groups of eight bytes, by a window, which pays where they are many.
 fn crc_groups(table: &[u16; 256], data: &[u8]) -> u16
     requires { table.now ≡ rows }
     ensures { result ≡ crc_from start (take (length «data».now / 8 * 8) «data».now) }
 {
-    if data.len() < 256 {
-        return crc_eights(table, data);
-    }
     let c = crc_folded(table, data);
     crc_rest(table, c, &data[data.len() / 128 * 128..])
 }
@@ -188,6 +185,9 @@ fn crc_whole(data: &[u8]) -> u16
 {
     if data.len() < 8 {
         return 0xFFFF;
+    }
+    if data.len() < 256 {
+        return crc_eights(data);
     }
     crc_tabled(data)
 }

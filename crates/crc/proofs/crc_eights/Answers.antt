@@ -5,7 +5,9 @@ use Prim.Native.Nat.{◌-◌, ◌*◌, ◌/◌}
 use native.Mathlib.Omega.{arith}
 use borrow.Author.Rules.{rules}
 use lib.ListN.{length}
-use Rattle.crc.specs.Crc.{start, crc_from}
+use Rattle.laws.specs.Pick.{pick}
+use Rattle.crc.specs.Crc.{start, crc_bit, crc_steps, crc_from}
+use Rattle.crc.specs.Rows.{rows, rows_from, four_on, tops}
 use Rattle.crc.proofs.LinearLaws.{Through, through_on}
 use Rattle.crc.proofs.crc_eights.Goals as goal
 
@@ -14,7 +16,8 @@ unfolding crc_from
 loop-i-init c = (omega arith, omega arith, refl)
 
 pub crc_eight-c-requires : goal.crc_eight-c-requires
-crc_eight-c-requires c = (search rules, search rules)
+unfolding rows rows_from four_on tops crc_steps crc_bit pick
+crc_eight-c-requires c = (refl, search rules)
 
 pub loop-i-preserved : goal.loop-i-preserved
 loop-i-preserved c =

@@ -28,7 +28,7 @@ loop-i-init c = (search rules, search rules, rw zero-mul (omega arith), search r
 pub value-requires : goal.value-requires
 value-requires c =
     let a = c.args in
-    (search rules, search rules, omega (arith, within c.loop-i.i a.w c.loop-i-test.true), search rules)
+    (search rules, omega (arith, within c.loop-i.i a.w c.loop-i-test.true), search rules)
 
 pub overflow_cast-value : goal.overflow_cast-value
 overflow_cast-value c =

@@ -1,10 +1,11 @@
 -- `bits::read::value_in` meets its contract.
 -- Assumes nothing.
-use borrow.Author.Rules.{rules}
 use native.Mathlib.Omega.{arith}
-use Prim.Native.Nat.{◌+◌, ◌-◌, ◌*◌}
-use lib.Pow.{pow_pos}
-use Rattle.laws.specs.Bits.{unpack}
+use mathlib.Core.Path.{◌≡◌}
+use Prim.Native.Nat.{◌+◌, ◌-◌, ◌/◌, ◌%◌, ◌^◌}
+use lib.ListN.{take, drop}
+use lib.Pow.{pow_pos, shr-shr}
+use Rattle.laws.specs.Bits.{bits_of, unpack}
 use Rattle.laws.proofs.BitLaws.{value_bits}
 use Rattle.bits.proofs.WordLaws.{part_of}
 use Rattle.bits.proofs.read.value_in.Goals as goal
@@ -15,6 +16,9 @@ nonzero_rem-result c = omega (arith, pow_pos c.args.n)
 pub returns : goal.returns
 returns c =
     let a = c.args in
-    let i = c.least-i.result in
-    let w = c.word in
-    rw (← part_of (unpack a.s.now) a.at i a.n w.result (64 + i * 8 - (a.at + a.n)) (omega arith) (omega arith) w.ensures, value_bits, c.power.ensures)
+    let b = unpack a.s.now in
+    let w = c.word.result in
+    let o = a.at % 8 in
+    let part : bits_of a.n (w / 2 ^ (7 - o) / 2 ^ (57 - a.n)) ≡ take a.n (drop a.at b) =
+    rw shr-shr (part_of b a.at (a.at / 8) a.n w ((7 - o) + (57 - a.n)) (omega arith) (omega arith) c.word.ensures) in
+    rw (← part, value_bits, c.power.ensures)

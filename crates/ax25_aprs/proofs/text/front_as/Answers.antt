@@ -1,4 +1,4 @@
--- `ax25_aprs::text::front` meets its contract: each way out is a case of what stands at the front.
+-- `ax25_aprs::text::front_as` meets its contract: each way out is a case of what stands at the front.
 -- Assumes nothing.
 use borrow.Author.Rules.{rules}
 use mathlib.Core.Path.{◌≡◌, sym, ◌∙◌}
@@ -13,7 +13,7 @@ use Rattle.laws.proofs.Cases.{and_right}
 use Rattle.ax25_aprs.proofs.WordLaws.{word_at_lem}
 use Rattle.ax25_aprs.proofs.TextLaws.{bits_altitude, size_altitude, bits_byte, size_byte, bits_word, size_word}
 use Rattle.ax25_aprs.proofs.Steps.{stepped}
-use Rattle.ax25_aprs.proofs.text.front.Goals as goal
+use Rattle.ax25_aprs.proofs.text.front_as.Goals as goal
 
 pub returns-then-n-eq0 : goal.returns-then-n-eq0
 returns-then-n-eq0 c =
