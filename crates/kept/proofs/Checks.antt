@@ -89,9 +89,12 @@ module _ (code len n : ℕ) (place : Option ℕ) where
 pub under_small : (name : List ℕ) (ss : List Slot) (i : ℕ) → place_under name ss ≡ some i → i < length ss
 under_small name ss i e = (first_hit (is_under name) ss free_slot i e).small
 
-pub for_small : (name : List ℕ) (ss : List Slot) (i : ℕ) → place_for name ss ≡ some i → i < length ss
-for_small name ss i e = by_first (place_under name ss) refl e
+of_two : (m n : List ℕ) (ss : List Slot) (i : ℕ) → or_else (place_under m ss) (place_under n ss) ≡ some i → i < length ss
+of_two m n ss i e = by_first (place_under m ss) refl e
   where
-    by_first : (o : Option ℕ) → place_under name ss ≡ o → or_else o (first_from is_free 0 ss) ≡ some i → i < length ss
-    by_first none q f = under_small [] ss i f
-    by_first (some j) q f = under_small name ss i (q ∙ f)
+    by_first : (o : Option ℕ) → place_under m ss ≡ o → or_else o (place_under n ss) ≡ some i → i < length ss
+    by_first none q f = under_small n ss i f
+    by_first (some j) q f = under_small m ss i (q ∙ f)
+
+pub for_small : (name : List ℕ) (ss : List Slot) (i : ℕ) → place_for name ss ≡ some i → i < length ss
+for_small name ss i e = of_two _ _ ss i e

@@ -132,15 +132,21 @@ none_refused r size h = simp (eq-eqb _ _ h.store, le-ltb _ _ h.fit, le-ltb _ _ h
 pub refused_none : (r : Joiner) (size : ℕ) → refusal_of r size ≡ 0 → Sound r size
 unfolding refusal_of pick
 refused_none r size e =
-    by_eq size 5000
+    by_test (mask_ok r.crc_mask)
+    (λ m. by_eq size 5000
     (λ a. by_le r.held 5000
     (λ b. by_le r.nfrag 255
-    (λ d. by_test (mask_ok r.crc_mask)
-    (λ m. record { store = a; fit = b; few = d; mask = m })
-    (λ m. let z : ◌≡◌ {A = ℕ} 9 0 = simp (eq-eqb _ _ a, le-ltb _ _ b, le-ltb _ _ d, m) at e in absurd (omega arith)))
-    (λ d. let z : ◌≡◌ {A = ℕ} 17 0 = simp (eq-eqb _ _ a, le-ltb _ _ b, lt-ltb _ _ d) at e in absurd (omega arith)))
-    (λ b. let z : ◌≡◌ {A = ℕ} 17 0 = simp (eq-eqb _ _ a, lt-ltb _ _ b) at e in absurd (omega arith)))
-    (λ a. let z : ◌≡◌ {A = ℕ} 17 0 = simp (ne_eqb _ _ a) at e in absurd (omega arith))
+    (λ d. record { store = a; fit = b; few = d; mask = m })
+    (λ d. absurd (omega (arith, simp (m, eq-eqb _ _ a, le-ltb _ _ b, lt-ltb _ _ d) at e))))
+    (λ b. absurd (omega (arith, simp (m, eq-eqb _ _ a, lt-ltb _ _ b) at e))))
+    (λ a. absurd (omega (arith, simp (m, ne_eqb _ _ a) at e))))
+    (λ m. by_eq size 5000
+    (λ a. by_le r.held 5000
+    (λ b. by_le r.nfrag 255
+    (λ d. absurd (omega (arith, simp (m, eq-eqb _ _ a, le-ltb _ _ b, le-ltb _ _ d) at e)))
+    (λ d. absurd (omega (arith, simp (m, eq-eqb _ _ a, le-ltb _ _ b, lt-ltb _ _ d) at e))))
+    (λ b. absurd (omega (arith, simp (m, eq-eqb _ _ a, lt-ltb _ _ b) at e))))
+    (λ a. absurd (omega (arith, simp (m, ne_eqb _ _ a) at e))))
 
 -- ---- `join`
 

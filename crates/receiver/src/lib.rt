@@ -210,6 +210,7 @@ impl Joiner {
     }
 
     // A fragment's tail goes after what is held, if there is room.
+    #[tactic(auto, using(crate::proofs::JoinLaws::grow_many))]
     fn grow(self, store: &mut [u8], first: u8, tail: &[u8]) -> Joined
         requires { (length store.old ≡ 5000) × ((self.held ≤ 5000) × (self.nfrag ≤ 255)) }
         ensures { joined_after result store.new ≡ grow_of self store.old first tail.now }

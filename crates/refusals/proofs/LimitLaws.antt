@@ -46,7 +46,7 @@ accepted_to (suc n) w l h =
     (λ e. simp (accepted_to n w l (omega (arith, e)), or-true (eqb (mask_for w) (mask_for (suc n)))))
 
 pub mask_accepted : (w : ℕ) → 1 ≤ w → w ≤ 7 → mask_ok (mask_for w) ≡ true
-mask_accepted w l h = accepted_to 7 w l h
+mask_accepted w l h = accepted_to _ w l (omega arith)
 
 top_to : (n mask : ℕ) → n ≤ 7 → top_of n mask ≡ true → Top mask
 unfolding top_of
@@ -57,7 +57,7 @@ top_to (suc n) mask l e =
     (λ h. top_to n mask (omega arith) (simp (ne_eqb mask (mask_for (suc n)) h) at e))
 
 pub mask_top : (mask : ℕ) → mask_ok mask ≡ true → Top mask
-mask_top mask e = top_to 7 mask (omega arith) e
+mask_top mask e = top_to _ mask (omega arith) e
 
 -- the accepted masks below n, the largest first
 pub masks_below : ℕ → List ℕ

@@ -40,11 +40,11 @@ returns-then-marker-eq-TERMINATOR c = refuses (build_marker _ _ _ _ ((let fact :
 
 pub returns-then-control-gt3 : goal.returns-then-control-gt3
 returns-then-control-gt3 c =
-    refuses (build_reply _ _ _ _ ((let fact : field_ok c.args.field ≡ true = sym c.field_ok.ensures ∙ c.if-not-field_ok.false in fact)) (omega arith) c.if-field-data.false c.if-marker-eq-TERMINATOR.false c.if-control-gt3.true)
+    refuses (build_reply _ _ _ _ ((let fact : field_ok c.args.field ≡ true = sym c.field_ok.ensures ∙ c.if-not-field_ok.false in fact)) (omega arith) c.if-field-data.false (omega arith) c.if-control-gt3.true)
 
 pub returns-then-control-gt7 : goal.returns-then-control-gt7
 returns-then-control-gt7 c =
-    refuses (build_hint _ _ _ _ ((let fact : field_ok c.args.field ≡ true = sym c.field_ok.ensures ∙ c.if-not-field_ok.false in fact)) (omega arith) c.if-field-data.false c.if-marker-eq-TERMINATOR.false c.if-control-gt7.true)
+    refuses (build_hint _ _ _ _ ((let fact : field_ok c.args.field ≡ true = sym c.field_ok.ensures ∙ c.if-not-field_ok.false in fact)) (omega arith) c.if-field-data.false (omega arith) c.if-control-gt7.true)
 
 pub overflow_add-field : goal.overflow_add-field
 overflow_add-field c =
@@ -53,7 +53,7 @@ overflow_add-field c =
 pub returns-then-out-field : goal.returns-then-out-field
 returns-then-out-field c =
     let a = c.args in
-    rw ((let fact : let a = c.args in build_of a.field a.«data».now a.control a.marker ≡ answer (frame_of a.field a.«data».now a.control a.marker) = build_answer _ _ _ _ ((let fact : field_ok c.args.field ≡ true = sym c.field_ok.ensures ∙ c.if-not-field_ok.false in fact)) (omega arith) c.if-field-data.false c.if-marker-eq-TERMINATOR.false c.if-control-gt3.false c.if-control-gt7.false in fact)) (sym (into_short _ _ (omega (arith, frame_length a.field a.«data».now a.control a.marker (omega arith)))))
+    rw ((let fact : let a = c.args in build_of a.field a.«data».now a.control a.marker ≡ answer (frame_of a.field a.«data».now a.control a.marker) = build_answer _ _ _ _ ((let fact : field_ok c.args.field ≡ true = sym c.field_ok.ensures ∙ c.if-not-field_ok.false in fact)) (omega arith) c.if-field-data.false (omega arith) (omega arith) (omega arith) in fact)) (sym (into_short _ _ (omega (arith, frame_length a.field a.«data».now a.control a.marker (omega arith)))))
 
 pub frame-requires : goal.frame-requires
 frame-requires c = (search rules, field_high _ ((let fact : field_ok c.args.field ≡ true = sym c.field_ok.ensures ∙ c.if-not-field_ok.false in fact)), search rules, search rules, search rules)

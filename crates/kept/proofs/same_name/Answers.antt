@@ -14,7 +14,7 @@ pub returns-then-name-len : goal.returns-then-name-len
 returns-then-name-len c =
     let a = c.args in
     sym (ne_same a.name.now (take a.len a.eight.now)
-    (λ e. c.if-name-len.true (ap length e ∙ length-take-le a.len a.eight.now (omega arith))))
+    (λ e. let z : length a.name.now ≡ a.len = ap length e ∙ length-take-le a.len a.eight.now (omega arith) in omega arith))
 
 pub loop-i-init : goal.loop-i-init
 loop-i-init c = (omega arith, λ k h. absurd (omega arith))
@@ -35,7 +35,7 @@ loop-i-preserved c = (omega arith, below_more _ _ c.loop-i.invariant.1 c.if-name
 pub returns : goal.returns
 returns c =
     let a = c.args in
-    let q : length a.name.now ≡ a.len = c.if-name-len.false in
+    let q : length a.name.now ≡ a.len = omega arith in
     let z = length-take-le a.len a.eight.now (omega arith) in
     sym (eq_same a.name.now (take a.len a.eight.now)
     (ext_get_or 0 a.name.now (take a.len a.eight.now) (q ∙ sym z)

@@ -32,7 +32,7 @@ pub returns-then-fragments-k : goal.returns-then-fragments-k
 returns-then-fragments-k c =
     let a = c.args in
     into_refuses a.out.now 13
-    (send_past a.message.now a.field a.mask a.k ((let fact : let a = c.args in Sendable a.message.now a.field a.mask = record { field_ok_holds = c.requires.field_value.0; mask_ok_holds = c.requires.field_value.1; some = omega arith; short = omega arith; first_low = omega arith; room = omega (arith, most_is c.args.mask, c.count-fragments.ensures, c.if-room-fragments.false) } in fact)) (omega (arith, c.count-fragments.ensures)))
+    (send_past a.message.now a.field a.mask a.k ((let fact : let a = c.args in Sendable a.message.now a.field a.mask = record { field_ok_holds = c.requires.field_value.0; mask_ok_holds = c.requires.field_value.1; some = omega arith; short = omega arith; first_low = omega arith; room = omega (arith, most_is c.args.mask, c.count-fragments.ensures) } in fact)) (omega (arith, c.count-fragments.ensures)))
 
 pub returns-then-len-field : goal.returns-then-len-field
 returns-then-len-field c =

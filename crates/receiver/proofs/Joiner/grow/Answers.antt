@@ -13,9 +13,6 @@ too_long base n l h = omega arith
 long_enough : (base n : ℕ) → base ≤ 5000 → n ≤ 5000 - base → base + n ≤ 5000
 long_enough base n l h = omega arith
 
-pub returns-then-nfrag-ge-RX_MAX_FRAGMENTS : goal.returns-then-nfrag-ge-RX_MAX_FRAGMENTS
-returns-then-nfrag-ge-RX_MAX_FRAGMENTS c = sym (grow_many _ _ _ _ c.if-nfrag-ge-RX_MAX_FRAGMENTS.true)
-
 pub overflow_sub-base : goal.overflow_sub-base
 overflow_sub-base c = (let fact : c.base_of-base.result ≤ 5000 = rw c.base_of-base.ensures (base_le c.args.self.held 5000 (omega arith) (omega arith)) in fact)
 
@@ -30,7 +27,7 @@ copy-end-requires c =
 pub returns-then-first-ge128 : goal.returns-then-first-ge128
 returns-then-first-ge128 c =
     rw (c.copy-end.ensures.stored, c.copy-end.ensures.next_is, c.head.ensures, c.base_of-base.ensures)
-    (sym (grow_more _ _ _ _ c.if-nfrag-ge-RX_MAX_FRAGMENTS.false (rw c.base_of-base.ensures at (long_enough _ _ ((let fact : c.base_of-base.result ≤ 5000 = rw c.base_of-base.ensures (base_le c.args.self.held 5000 (omega arith) (omega arith)) in fact)) c.if-base-tail.false)) c.if-first-ge128.true))
+    (sym (grow_more _ _ _ _ (omega arith) (rw c.base_of-base.ensures at (long_enough _ _ ((let fact : c.base_of-base.result ≤ 5000 = rw c.base_of-base.ensures (base_le c.args.self.held 5000 (omega arith) (omega arith)) in fact)) c.if-base-tail.false)) c.if-first-ge128.true))
 
 pub finish-requires : goal.finish-requires
 finish-requires c =
@@ -41,4 +38,4 @@ pub returns : goal.returns
 returns c =
     c.finish.ensures
     ∙ rw (c.copy-end.ensures.stored, c.copy-end.ensures.next_is, c.head.ensures, c.base_of-base.ensures)
-    (sym (grow_last _ _ _ _ c.if-nfrag-ge-RX_MAX_FRAGMENTS.false (rw c.base_of-base.ensures at (long_enough _ _ ((let fact : c.base_of-base.result ≤ 5000 = rw c.base_of-base.ensures (base_le c.args.self.held 5000 (omega arith) (omega arith)) in fact)) c.if-base-tail.false)) c.if-first-ge128.false))
+    (sym (grow_last _ _ _ _ (omega arith) (rw c.base_of-base.ensures at (long_enough _ _ ((let fact : c.base_of-base.result ≤ 5000 = rw c.base_of-base.ensures (base_le c.args.self.held 5000 (omega arith) (omega arith)) in fact)) c.if-base-tail.false)) c.if-first-ge128.false))

@@ -12,10 +12,10 @@ overflow_add-field c =
 
 pub returns-then-f-field : goal.returns-then-f-field
 returns-then-f-field c =
-    sym (push_length _ _ _ _ c.requires.0 c.requires.1 c.if-f-field.true)
+    sym (push_length _ _ _ _ c.requires.0 c.requires.1 (omega arith))
 
 pub returns : goal.returns
 returns c =
     c.joined.ensures
     ∙ rw c.fragment_length-n.ensures
-    (sym (push_on _ _ _ _ c.requires.0 c.requires.1 c.if-f-field.false))
+    (sym (push_on _ _ _ _ c.requires.0 c.requires.1 (omega arith)))

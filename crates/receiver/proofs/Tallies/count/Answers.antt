@@ -11,11 +11,11 @@ use Rattle.receiver.proofs.Tallies.count.Goals as goal
 
 pub overflow_add-self : goal.overflow_add-self
 overflow_add-self c =
-    omega (arith, (room c.args.self c.requires).offered)
+    let h = room c.args.self c.requires in omega arith
 
 pub overflow_add-self-in-More : goal.overflow_add-self-in-More
 overflow_add-self-in-More c =
-    omega (arith, (room c.args.self c.requires).more)
+    let h = room c.args.self c.requires in omega arith
 
 pub returns-in-More : goal.returns-in-More
 returns-in-More c =
@@ -24,11 +24,11 @@ returns-in-More c =
 
 pub overflow_add-self-in-Done : goal.overflow_add-self-in-Done
 overflow_add-self-in-Done c =
-    omega (arith, (room c.args.self c.requires).offered)
+    let h = room c.args.self c.requires in omega arith
 
 pub overflow_add-self-in-Done-2 : goal.overflow_add-self-in-Done-2
 overflow_add-self-in-Done-2 c =
-    omega (arith, (room c.args.self c.requires).done)
+    let h = room c.args.self c.requires in omega arith
 
 pub returns-in-Done : goal.returns-in-Done
 returns-in-Done c =

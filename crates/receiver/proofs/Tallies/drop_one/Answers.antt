@@ -9,11 +9,11 @@ use Rattle.receiver.proofs.TallyLaws.{room, tallied_wrong_length, tallied_no_fra
 use Rattle.receiver.proofs.Tallies.drop_one.Goals as goal
 
 pub overflow_add-self : goal.overflow_add-self
-overflow_add-self c = omega (arith, (room c.args.self c.requires).offered)
+overflow_add-self c = let h = room c.args.self c.requires in omega arith
 
 pub overflow_add-self-in-WrongLength : goal.overflow_add-self-in-WrongLength
 overflow_add-self-in-WrongLength c =
-    omega (arith, (room c.args.self c.requires).wrong_length)
+    let h = room c.args.self c.requires in omega arith
 
 pub returns-in-WrongLength : goal.returns-in-WrongLength
 returns-in-WrongLength c =
@@ -22,7 +22,7 @@ returns-in-WrongLength c =
 
 pub overflow_add-self-in-NoFragment : goal.overflow_add-self-in-NoFragment
 overflow_add-self-in-NoFragment c =
-    omega (arith, (room c.args.self c.requires).no_fragment)
+    let h = room c.args.self c.requires in omega arith
 
 pub returns-in-NoFragment : goal.returns-in-NoFragment
 returns-in-NoFragment c =
@@ -31,7 +31,7 @@ returns-in-NoFragment c =
 
 pub overflow_add-self-in-Overflow : goal.overflow_add-self-in-Overflow
 overflow_add-self-in-Overflow c =
-    omega (arith, (room c.args.self c.requires).overflow)
+    let h = room c.args.self c.requires in omega arith
 
 pub returns-in-Overflow : goal.returns-in-Overflow
 returns-in-Overflow c =
@@ -40,7 +40,7 @@ returns-in-Overflow c =
 
 pub overflow_add-self-in-Limit : goal.overflow_add-self-in-Limit
 overflow_add-self-in-Limit c =
-    omega (arith, (room c.args.self c.requires).limit)
+    let h = room c.args.self c.requires in omega arith
 
 pub returns-in-Limit : goal.returns-in-Limit
 returns-in-Limit c =
@@ -49,7 +49,7 @@ returns-in-Limit c =
 
 pub overflow_add-self-in-Check : goal.overflow_add-self-in-Check
 overflow_add-self-in-Check c =
-    omega (arith, (room c.args.self c.requires).check)
+    let h = room c.args.self c.requires in omega arith
 
 pub returns-in-Check : goal.returns-in-Check
 returns-in-Check c =
