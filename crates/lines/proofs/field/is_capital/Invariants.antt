@@ -1,6 +1,6 @@
 -- `lines::field::is_capital` is safe and ends: the place goes up to the length.
 -- Assumes nothing.
-use Rattle.std.proofs.Common.{◌-◌, ◌≤◌, length, rules}
+use Rattle.std.proofs.Common.{◌-◌, ◌≤◌, length}
 use Rattle.lines.proofs.field.is_capital.Given as goal
 
 abbrev pub invariant-loop-i : goal.invariant-loop-i

@@ -1,6 +1,6 @@
 -- `lines::field::numbers` is safe and ends, and `out` keeps its length.
 -- Assumes nothing.
-use Rattle.std.proofs.Common.{◌≡◌, ◌-◌, ◌≤◌, length, rules}
+use Rattle.std.proofs.Common.{◌≡◌, ◌-◌, ◌≤◌, length}
 use Rattle.lines.proofs.field.numbers.Given as goal
 
 abbrev pub invariant-loop-i : goal.invariant-loop-i
