@@ -4,6 +4,8 @@
 ghost use Rattle.std.specs.Prelude.{◌≡◌, ◌+◌, ◌^◌, ◌<◌, ◌≤◌, length};
 
 use bits_write::copy;
+use std::env::{Env, FillError};
+use std::io::Read;
 use texts::number::{Number, decimal};
 use texts::part::{find, front};
 
@@ -51,8 +53,8 @@ pub fn start() -> Stand
     }
 }
 
-// Reads where all is taken. The input has ended where nothing came.
-fn filled(s: Stand, chunk: &mut [u8]) -> Stand
+// Reads where all is taken. The input has ended where nothing came or the reading failed.
+fn filled<R: Read>(reader: &mut R, s: Stand, chunk: &mut [u8]) -> Stand
     requires { s.to ≤ length chunk.old }
     ensures { (result.from ≤ result.to) × (result.to ≤ length chunk.new) × (result.len ≡ s.len) }
 {
@@ -61,8 +63,10 @@ fn filled(s: Stand, chunk: &mut [u8]) -> Stand
     if from < to {
         return s;
     }
-    let got = libc::read(0, chunk);
-    let n = io::count(got, chunk);
+    let n = match reader.read(chunk) {
+        Ok(n) => n,
+        Err(_) => 0,
+    };
     Stand {
         from: 0,
         to: n,
@@ -115,11 +119,11 @@ fn taken(s: Stand, chunk: &[u8], line: &mut [u8]) -> Stand
 }
 
 // Reads where all is taken, and takes what was read up to the line's end.
-fn step(s: Stand, chunk: &mut [u8], line: &mut [u8]) -> Stand
+fn step<R: Read>(reader: &mut R, s: Stand, chunk: &mut [u8], line: &mut [u8]) -> Stand
     requires { (s.to ≤ length chunk.old) × (s.len ≤ length line.old + 1) × (length chunk.old < 2 ^ 60) × (length line.old < 2 ^ 60) }
     ensures { (result.to ≤ length chunk.new) × (result.len ≤ length line.new + 1) }
 {
-    let f = filled(s, chunk);
+    let f = filled(reader, s, chunk);
     if f.ended {
         return f;
     }
@@ -127,7 +131,7 @@ fn step(s: Stand, chunk: &mut [u8], line: &mut [u8]) -> Stand
 }
 
 // The next line, its first bytes in `line`. At the end of the input it is empty.
-pub fn next(s: Stand, chunk: &mut [u8], line: &mut [u8]) -> Stand
+pub fn next<R: Read>(reader: &mut R, s: Stand, chunk: &mut [u8], line: &mut [u8]) -> Stand
     requires { (s.to ≤ length chunk.old) × (length chunk.old < 2 ^ 60) × (length line.old < 2 ^ 60) }
     ensures { (result.to ≤ length chunk.new) × (result.len ≤ length line.new + 1) }
 {
@@ -147,7 +151,7 @@ pub fn next(s: Stand, chunk: &mut [u8], line: &mut [u8]) -> Stand
         if stand.ended {
             return stand;
         }
-        stand = step(stand, chunk, line);
+        stand = step(reader, stand, chunk, line);
         turns -= 1;
     }
     stand
@@ -165,27 +169,49 @@ pub fn must_wait(s: Stand, chunk: &[u8]) -> bool
     find(&chunk[0..to], from, b'\n') == to
 }
 
-// Word i of the command line is this one; the program's own name is word 0.
-fn is_word(i: usize, word: &[u8]) -> bool {
+// How many bytes word i of the command line has, put at the start of `text`: none where there is no such word or no room for it.
+fn word_at<E: Env>(env: &E, i: usize, text: &mut [u8]) -> usize
+    ensures { result ≤ length text.new }
+{
+    match env.arg(i, text) {
+        Ok(n) => n,
+        Err(_) => 0,
+    }
+}
+
+// The command line has a word i, counted from 0, which is the program's own name.
+fn has_place<E: Env>(env: &E, i: usize) -> bool {
     let mut text = io::buffer();
-    let n = os::arg(i, &mut text);
+    match env.arg(i, &mut text) {
+        Ok(_) => true,
+        Err(FillError::TooLong) => true,
+        Err(FillError::NotPresent) => false,
+    }
+}
+
+// Word i of the command line is this one; the program's own name is word 0.
+fn is_word<E: Env>(env: &E, i: usize, word: &[u8]) -> bool {
+    let mut text = io::buffer();
+    let n = word_at(env, i, &mut text);
     check::same(&text[..n], word)
 }
 
 // A number of the command line.
-fn number_at(i: usize) -> Number {
+fn number_at<E: Env>(env: &E, i: usize) -> Number {
     let mut text = io::buffer();
-    let n = os::arg(i, &mut text);
+    let n = word_at(env, i, &mut text);
     decimal(&text[..n])
 }
 
 // The command line has this word after its two numbers, first or second.
-pub fn has_word(word: &[u8]) -> bool {
-    is_word(3, word) | is_word(4, word)
+pub fn has_word<E: Env>(env: &E, word: &[u8]) -> bool {
+    is_word(env, 3, word) | is_word(env, 4, word)
 }
 
 // How many words the command line has: the program's name and two numbers, and one more for each of these that is so.
-fn words(first: bool, second: bool) -> usize {
+fn words(first: bool, second: bool) -> usize
+    ensures { (3 ≤ result) × (result ≤ 5) }
+{
     if first {
         if second {
             return 5;
@@ -198,15 +224,22 @@ fn words(first: bool, second: bool) -> usize {
     3
 }
 
+// The command line has so many words.
+fn has_count<E: Env>(env: &E, count: usize) -> bool
+    requires { 0 < count }
+{
+    has_place(env, count - 1) && !has_place(env, count)
+}
+
 // The two numbers of the command line, with one word or two after them where these are so, and with nothing else.
-pub fn numbers(first: bool, second: bool) -> Arguments {
-    if os::arg_count() != words(first, second) {
+pub fn numbers<E: Env>(env: &E, first: bool, second: bool) -> Arguments {
+    if !has_count(env, words(first, second)) {
         return Arguments::Other;
     }
-    let Number::Is(a) = number_at(1) else {
+    let Number::Is(a) = number_at(env, 1) else {
         return Arguments::Other;
     };
-    let Number::Is(b) = number_at(2) else {
+    let Number::Is(b) = number_at(env, 2) else {
         return Arguments::Other;
     };
     Arguments::Two(a, b)

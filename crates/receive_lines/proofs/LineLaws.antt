@@ -52,7 +52,7 @@ module _ (d : List ℕ) (command : ℕ) where
   unfolding readable_of
   readable_frame h = pick_false _ _ (ne_eqb command 2 h)
 
--- the first line is `done ` and the line that `send` reads back (`line-back` in send_lines/proofs/LineLaws)
+-- the first line is `done ` and the line that `send` reads back (`line_back` in send_lines/proofs/LineLaws)
 module _ (command : ℕ) (d : List ℕ) (known : command ≤ 2) (h : bits.Bytes d) where
   first_line : before 10 (done_text command d) ≡ ascii "done " ++ spelled_of command d
   unfolding done_text

@@ -12,6 +12,8 @@ use input::{Arguments, Stand, has_word, hold, mask_of, must_wait, next, numbers,
 use line::Step;
 use loss::put_losses;
 use receiver::{Fresh, Reassembler};
+use std::env::Env;
+use std::io::Read;
 use texts::part::{front, without_cr};
 use texts::say::{put_error, put_refusal};
 
@@ -41,10 +43,10 @@ fn room() -> [u8; 400000]
 
 // The whole program: FIELD and MASK from the command line, then every line. After them may stand, in any order, the word `mended` for
 // the mended reading and the word `tallies` for a line at the end that says where the frames went.
-pub fn run() {
-    let mended = has_word(b"mended");
-    let tallies = has_word(b"tallies");
-    let Arguments::Two(field, mask) = numbers(mended, tallies) else {
+pub fn run<E: Env, R: Read>(env: &E, reader: &mut R) {
+    let mended = has_word(env, b"mended");
+    let tallies = has_word(env, b"tallies");
+    let Arguments::Two(field, mask) = numbers(env, mended, tallies) else {
         io::write_all(
             1,
             b"usage: receive FIELD MASK [mended] [tallies] (bytes of a frame's field, 3 to 512; mask of 1 to 7 check bits: 128, 192, 224, 240 (HF), 248 (FM), 252 or 254; mended: WIDE1-2, WIDE1-3, WIDE2-2 and WIDE2-3 are read as sent; tallies: a last line counts the frames by what came of them)\n",
@@ -58,7 +60,8 @@ pub fn run() {
             print(&out, size);
         }
         Fresh::Ready(receiver) => {
-            let End::Answered(left) = every(receiver, field as usize, &mut out, mended) else {
+            let End::Answered(left) = every(reader, receiver, field as usize, &mut out, mended)
+            else {
                 return;
             };
             if tallies {
@@ -70,19 +73,27 @@ pub fn run() {
 }
 
 // Answers every line of standard input.
-fn every(receiver: Reassembler, field: usize, out: &mut [u8], mended: bool) -> End {
+fn every<R: Read>(
+    reader: &mut R,
+    receiver: Reassembler,
+    field: usize,
+    out: &mut [u8],
+    mended: bool,
+) -> End {
     let mut chunk = io::buffer();
     let mut line = input::room();
     let mut space = store();
     let mut frame = input::room();
     let mut data = io::large_buffer();
     lines(
-        receiver, field, &mut chunk, &mut line, &mut space, &mut frame, &mut data, out, mended,
+        reader, receiver, field, &mut chunk, &mut line, &mut space, &mut frame, &mut data, out,
+        mended,
     )
 }
 
 // Answers every line, as long as the answers can be written. Those of all lines that were read at once are written at once.
-fn lines(
+fn lines<R: Read>(
+    reader: &mut R,
     receiver: Reassembler,
     field: usize,
     chunk: &mut [u8],
@@ -100,7 +111,7 @@ fn lines(
     let mut at: usize = 0;
     let mut turns = u64::MAX;
     while 0 < turns {
-        stand = next(stand, chunk, line);
+        stand = next(reader, stand, chunk, line);
         if stand.ended && stand.len == 0 {
             print(out, at);
             return End::Answered(state);

@@ -1,6 +1,7 @@
 // Reads lines from standard input, `ax25 HEX`, `long HEX`, `generic HEX` or `text TEXT`, and writes the frames of each.
 #![tactic(auto)]
 
-fn main() {
-    send_lines::run(false);
+fn main(rt: HostRuntime) {
+    let mut stdin = rt.stdin();
+    send_lines::run(&rt, &mut stdin, false);
 }

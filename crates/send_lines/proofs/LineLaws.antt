@@ -227,6 +227,6 @@ module _ (priced : Bool) (field mask number command : ℕ) (d : List ℕ) (known
       known
       ∙ spelled_data (behind 32 (x ∷ s)) r.1 r.2
 
-  -- what `receive` writes after `done ` (`done-line` in receive_lines/proofs/LineLaws) is the command and the bytes again
+  -- what `receive` writes after `done ` (`done_line` in receive_lines/proofs/LineLaws) is the command and the bytes again
   pub line_back : bits.Bytes d → length d ≤ line_room → line_text priced field mask number (without_cr (spelled_of command d)) ≡ said_of priced field mask command d
   line_back h few = line_data (without_cr (spelled_of command d)) (spelled_back command d known h few)

@@ -8,6 +8,8 @@ ghost use Rattle.std.specs.Prelude.{◌≡◌, ◌^◌, ◌≤◌, ◌<◌, leng
 ghost use Rattle.texts.specs.Say.{line_room};
 
 use input::{Arguments, Stand, hold, mask_of, must_wait, next, numbers, print, room};
+use std::env::Env;
+use std::io::Read;
 use texts::part::{front, without_cr};
 use texts::say::put_error;
 
@@ -15,8 +17,8 @@ use texts::say::put_error;
 const ANSWER: usize = 16384;
 
 // The whole program `price`, or `send`: FIELD and MASK from the command line, then every line.
-pub fn run(priced: bool) {
-    let Arguments::Two(field, mask) = numbers(false, false) else {
+pub fn run<E: Env, R: Read>(env: &E, reader: &mut R, priced: bool) {
+    let Arguments::Two(field, mask) = numbers(env, false, false) else {
         usage(priced);
         return;
     };
@@ -26,6 +28,7 @@ pub fn run(priced: bool) {
     let mut message = room();
     let mut out = io::large_buffer();
     lines(
+        reader,
         priced,
         field as usize,
         mask_of(mask),
@@ -51,7 +54,8 @@ fn usage(priced: bool) {
 }
 
 // Answers every line, as long as the answers can be written. Those of all lines that were read at once are written at once.
-fn lines(
+fn lines<R: Read>(
+    reader: &mut R,
     priced: bool,
     field: usize,
     mask: u8,
@@ -67,7 +71,7 @@ fn lines(
     let mut at: usize = 0;
     let mut turns = u64::MAX;
     while 0 < turns {
-        stand = next(stand, chunk, line);
+        stand = next(reader, stand, chunk, line);
         if stand.ended && stand.len == 0 {
             print(out, at);
             return;

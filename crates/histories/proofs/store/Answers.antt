@@ -3,14 +3,10 @@
 use Prim.Native.Nat.{ℕ}
 use mathlib.Core.Path.{◌≡◌, sym}
 use lib.ListN.{length, replicate, length-replicate}
-use Rattle.histories.proofs.store.Statement.{statement}
-use Rattle.histories.proofs.store.Tie as tie
+use Rattle.histories.proofs.store.Goals as goal
 
 known : 5000 ≡ length {0} {A = ℕ} (replicate {0} {A = ℕ} 5000 0)
 known = sym (length-replicate {0} {A = ℕ} 5000 0)
 
-returns : tie.Need-returns
+pub returns : goal.returns
 returns c = known
-
-pub store_spec : {M : Type 1} → statement M
-store_spec = tie.close (tie.spec returns)
