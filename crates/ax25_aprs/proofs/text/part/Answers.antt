@@ -25,7 +25,7 @@ returns-then-s-ge128 c =
     let p = a.position in
     let s = a.s.now in
     let h = no_run_high s c.if-s-ge128.true in
-    rw (part_front p s h, part_front_size p s h) c.front-then-s-ge128.ensures
+    rw (part_front p s h, part_front_size p s h) c.front_as.ensures
 
 pub returns : goal.returns
 returns c =
