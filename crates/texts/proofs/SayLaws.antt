@@ -2,13 +2,10 @@
 -- Assumes nothing.
 use mathlib.Core.Path.{◌≡◌, refl, sym, ◌∙◌}
 use mathlib.Core.List.{List, [], ◌∷◌, ◌++◌}
-use mathlib.Core.Logic.{⊎_elim}
 use Prim.Native.Nat.{ℕ}
 use native.Mathlib.Omega.{arith}
 use lib.ListN.{length}
 use borrow.Author.Tests.{eq-eqb, ne_eqb}
-use denote.Enum.Declared.{tag_of}
-use types.Run.{OneOf}
 use Rattle.laws.specs.Text.{ascii}
 use Rattle.laws.proofs.Cases.{pick_true, pick_false}
 use Rattle.laws.proofs.TextLaws.{eq_same, ne_same}
@@ -16,7 +13,6 @@ use Rattle.texts.specs.Hex.{hex_of}
 use Rattle.texts.specs.Say.{command_of, digits_of, unread_line, read_or}
 use Rattle.texts.specs.declared.hex.Read.{Read}
 use Rattle.texts.specs.declared.hex.Read.TheVariants.{Bytes, NoDigit, Odd, TooLong}
-use Rattle.texts.specs.contracts.hex.Read.{the_type}
 
 module _ (w : List ℕ) where
   pub command_ax25 : w ≡ ascii "ax25" → 0 ≡ command_of w
@@ -50,13 +46,7 @@ module _ (d : List ℕ) where
   unfolding digits_of
   digits_some h = pick_false _ _ (ne_eqb (length d) 0 h)
 
--- what is left where a text spells no bytes: the tags of the other answers
-pub not_bytes : (r : Read) → OneOf (1 ∷ 2 ∷ 3 ∷ []) (tag_of the_type r) → (n : ℕ) → r ≡ Bytes n → ⊥
-not_bytes r k n e = never (rw e at k)
-  where
-    never : OneOf (1 ∷ 2 ∷ 3 ∷ []) (tag_of the_type (Bytes n)) → ⊥
-    never q = ⊎_elim (λ z. omega arith) (λ w. ⊎_elim (λ z. omega arith) (λ z. omega arith) w) q
-
+-- a text that spells no bytes
 pub unread_by : (number : ℕ) (text : List ℕ) (r : Read) → ((n : ℕ) → r ≡ Bytes n → ⊥) → read_or number text r ≡ unread_line number r
 unfolding read_or
 unread_by number text (Bytes n) f = absurd (f n refl)

@@ -1,0 +1,26 @@
+-- `receive_lines::line::decoded` meets its contract.
+-- Assumes nothing.
+use borrow.Author.Rules.{rules}
+use mathlib.Core.Path.{ap, ◌∙◌}
+use native.Mathlib.Omega.{arith}
+use lib.ListN.{length}
+use Rattle.receive_lines.specs.Line.{decoded_text}
+use Rattle.receive_lines.proofs.LineLaws.{decode_refused, decode_bytes}
+use Rattle.receive_lines.proofs.line.decoded.Goals as goal
+
+pub put_done-requires : goal.put_done-requires
+put_done-requires c =
+    let h = decode_bytes _ c.args.message.now _ _ c.decode.result c.decode.ensures _ _ c.in-Bytes.is in
+    omega (arith, ap length (c.front.ensures ∙ h.front), h.fits_in, c.requires.1)
+
+pub returns-in-Refused : goal.returns-in-Refused
+unfolding decoded_text
+returns-in-Refused c =
+    let none = decode_refused _ c.args.message.now _ _ c.decode.result c.decode.ensures c.requires.0 _ c.in-Refused.is in
+    rw none c.put_refusal.ensures
+
+pub returns-in-Bytes : goal.returns-in-Bytes
+unfolding decoded_text
+returns-in-Bytes c =
+    let h = decode_bytes _ c.args.message.now _ _ c.decode.result c.decode.ensures _ _ c.in-Bytes.is in
+    rw h.is (rw (h.beside, c.front.ensures ∙ h.front) at c.put_done.ensures)
