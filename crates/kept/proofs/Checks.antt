@@ -15,7 +15,7 @@ use Rattle.laws.specs.Text.{same}
 use Rattle.laws.proofs.Cases.{by_test, by_eq, by_option, pick_true, pick_false}
 use Rattle.refusals.specs.Outcome.{refused, answer}
 use Rattle.refusals.proofs.OutcomeLaws.{answer_not, same_answer_lem}
-use Rattle.kept.specs.Keep.{name_ok, is_under, is_free, first_from, place_under, or_else, place_for, free_slot, size_refusal, refusal_in, kept_refusal, lent_refusal, place_or, placed}
+use Rattle.kept.specs.Keep.{name_ok, is_under, place_under, or_else, place_for, free_slot, size_refusal, refusal_in, kept_refusal, lent_refusal, place_or, placed}
 use Rattle.kept.specs.declared.Kept.{Kept}
 use Rattle.kept.specs.declared.Slot.{Slot}
 use Rattle.kept.proofs.Places.{first_hit}

@@ -309,6 +309,7 @@ impl Kept {
     }
 
     // Some flag is neither 0 nor 1.
+    #[tactic(auto, using(crate::proofs::Flags::other_flag_here))]
     fn has_other_flag(self) -> bool
         ensures { result ≡ is_place (first_from has_other_flag 0 self.slots) }
     {

@@ -175,6 +175,7 @@ impl Joiner {
     }
 
     // The last fragment is in: its first byte goes to the front, and several fragments are checked.
+    #[tactic(auto, using(crate::proofs::JoinLaws::finish_one))]
     fn finish(self, store: &mut [u8], first: u8) -> Joined
         requires { (0 < self.held) × (self.held ≤ length store.old) }
         ensures { joined_after result store.new ≡ finish_of self store.old first }

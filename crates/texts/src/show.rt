@@ -19,6 +19,7 @@ fn put_number(out: &mut [u8], at: usize, x: u8) -> usize
 }
 
 // A byte of 20 to 7E as it is, any other by its digits. The next place.
+#[tactic(auto, using(crate::proofs::ShowLaws::shown_high))]
 fn put_one(out: &mut [u8], at: usize, x: u8) -> usize
     requires { at < 2 ^ 60 }
     ensures { Wrote out.old at (shown_byte x) out.new result }

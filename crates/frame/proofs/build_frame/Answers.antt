@@ -7,7 +7,6 @@ use mathlib.Core.List.{List}
 use Prim.Native.Nat.{ℕ, ◌≤◌}
 use native.Mathlib.Omega.{arith}
 use lib.ListN.{length}
-use borrow.Author.Tests.{not-true, not-false}
 use Rattle.laws.specs.Wrote.{Wrote}
 use Rattle.refusals.specs.Limits.{field_ok}
 use Rattle.refusals.specs.Outcome.{Outcome, refused, answer, left, into}

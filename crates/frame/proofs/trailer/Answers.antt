@@ -1,6 +1,5 @@
 -- `frame::trailer` meets its contract.
 -- Assumes nothing.
-use borrow.Author.Rules.{rules}
 use mathlib.Core.Path.{sym}
 use lib.Seq.{length-take-le}
 use Rattle.laws.proofs.WroteLaws.{wrote_then}

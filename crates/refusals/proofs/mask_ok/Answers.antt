@@ -1,9 +1,9 @@
 -- `refusals::mask_ok` meets its contract: the masks of 1 to 7 check bits, and no other.
 -- Assumes nothing.
-use mathlib.Core.Path.{◌≡◌, sym}
-use mathlib.Core.Logic.{◌⊎◌, inl, inr}
+use mathlib.Core.Path.{sym}
+use mathlib.Core.Logic.{inl, inr}
 use borrow.Author.Tests.{ne_eqb}
-use Rattle.refusals.specs.Limits.{top_of, mask_ok}
+use Rattle.refusals.specs.Limits.{top_of}
 use Rattle.refusals.proofs.mask_ok.Goals as goal
 
 pub returns-in-128 : goal.returns-in-128

@@ -1,6 +1,5 @@
 -- `sender::check_byte` meets its contract.
 -- Assumes nothing.
-use borrow.Author.Rules.{rules}
 use mathlib.Core.Path.{ap}
 use Prim.Native.Nat.{◌-◌}
 use lib.Bits.{bit_or}

@@ -1,6 +1,5 @@
 -- `sender::count` meets its contract.
 -- Assumes nothing.
-use borrow.Author.Rules.{rules}
 use native.Mathlib.Omega.{arith}
 use mathlib.Core.Path.{sym}
 use Rattle.sender.proofs.CountLaws.{count_one, count_many}

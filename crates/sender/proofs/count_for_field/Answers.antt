@@ -1,9 +1,7 @@
 -- `sender::count_for_field` meets its contract.
 -- Assumes nothing.
-use borrow.Author.Rules.{rules}
 use mathlib.Core.Bool.{true}
 use mathlib.Core.Path.{◌≡◌, sym, ap, ◌∙◌}
-use borrow.Author.Tests.{not-true, not-false}
 use Rattle.refusals.specs.Limits.{field_ok}
 use Rattle.refusals.specs.Outcome.{answer}
 use Rattle.refusals.proofs.LimitLaws.{field_low, field_high}

@@ -1,10 +1,8 @@
 -- `sender::fragment` meets its contract.
 -- Assumes nothing.
-use borrow.Author.Rules.{rules}
 use native.Mathlib.Omega.{arith}
 use mathlib.Core.Bool.{true}
 use mathlib.Core.Path.{◌≡◌, sym, ◌∙◌}
-use borrow.Author.Tests.{not-true, not-false}
 use Rattle.refusals.specs.Limits.{field_ok, mask_ok}
 use Rattle.refusals.proofs.OutcomeLaws.{into_refuses}
 use Rattle.sender.proofs.SendLaws.{send_field, send_mask, send_empty, send_long, send_high}

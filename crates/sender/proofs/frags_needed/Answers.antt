@@ -1,6 +1,5 @@
 -- `sender::frags_needed` meets its contract.
 -- Assumes nothing.
-use borrow.Author.Rules.{rules}
 use native.Mathlib.Nat.{div-le_self}
 use native.Mathlib.Omega.{arith}
 use mir.Syntax.{w64}

@@ -1,6 +1,5 @@
 -- `sender::lead_of` meets its contract.
 -- Assumes nothing.
-use borrow.Author.Rules.{rules}
 use native.Mathlib.Omega.{arith}
 use mathlib.Core.Path.{sym}
 use Rattle.sender.proofs.SendLaws.{lead_more, lead_last}

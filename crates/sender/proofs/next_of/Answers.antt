@@ -1,6 +1,5 @@
 -- `sender::next_of` meets its contract: the first byte and then as many bytes as there are, at most field - 1.
 -- Assumes nothing.
-use borrow.Author.Rules.{rules}
 use native.Mathlib.Omega.{arith}
 use mathlib.Core.Path.{◌≡◌, sym, ap, ◌∙◌}
 use mathlib.Core.List.{List, ◌∷◌}

@@ -1,6 +1,5 @@
 -- `sender::whole` meets its contract.
 -- Assumes nothing.
-use borrow.Author.Rules.{rules}
 use mathlib.Core.Path.{sym}
 use Rattle.refusals.proofs.OutcomeLaws.{into_short, into_wrote}
 use Rattle.sender.proofs.whole.Goals as goal

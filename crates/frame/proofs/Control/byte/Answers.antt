@@ -1,6 +1,5 @@
 -- `frame::Control::byte` meets its contract.
 -- Assumes nothing.
-use borrow.Author.Rules.{rules}
 use native.Mathlib.Omega.{arith}
 use Rattle.laws.proofs.BitLaws.{num_lt}
 use Rattle.frame.specs.Frame.{control_byte}

@@ -3,7 +3,7 @@
 use mathlib.Core.Path.{sym, ◌∙◌}
 use Prim.Native.Nat.{ℕ, ◌+◌, ◌-◌, ◌≤◌, ◌<◌}
 use native.Mathlib.Omega.{arith}
-use Rattle.receiver.proofs.JoinLaws.{grow_many, grow_long, grow_more, grow_last, base_le, base_pos}
+use Rattle.receiver.proofs.JoinLaws.{grow_long, grow_more, grow_last, base_le, base_pos}
 use Rattle.receiver.proofs.Joiner.grow.Goals as goal
 
 -- the test by what is left of the store, as a test of held plus tail

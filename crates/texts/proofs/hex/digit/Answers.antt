@@ -1,7 +1,6 @@
 -- `texts::hex::digit` meets its contract, by ranges.
 -- Assumes nothing.
 use native.Mathlib.Omega.{arith}
-use borrow.Author.Rules.{rules}
 use mathlib.Core.Path.{sym}
 use Rattle.texts.proofs.HexLaws.{value_low, value_digit, value_middle, value_capital, value_upper, value_small, value_high}
 use Rattle.texts.proofs.hex.digit.Goals as goal

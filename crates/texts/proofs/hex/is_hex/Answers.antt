@@ -1,12 +1,11 @@
 -- `texts::hex::is_hex` meets its contract. What was passed are digits: the answer is that of the rest.
 -- Assumes nothing.
 use borrow.Author.Rules.{rules}
-use mathlib.Core.Path.{◌≡◌, refl}
+use mathlib.Core.Path.{refl}
 use native.Mathlib.Omega.{arith}
-use Prim.Native.Nat.{◌≤◌, ◌-◌}
-use lib.ListN.{length, get_or, drop}
+use lib.ListN.{get_or}
 use borrow.Author.Tests.{lt-ltb, le-ltb}
-use Rattle.texts.specs.Hex.{hex_value, is_hex}
+use Rattle.texts.specs.Hex.{hex_value}
 use Rattle.texts.proofs.HexLaws.{hex_end, hex_at}
 use Rattle.texts.proofs.hex.is_hex.Goals as goal
 

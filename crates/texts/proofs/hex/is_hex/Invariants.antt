@@ -1,13 +1,9 @@
 -- `texts::hex::is_hex` meets its contract. What was passed are digits: the answer is that of the rest.
 -- Assumes nothing.
-use borrow.Author.Rules.{rules}
-use mathlib.Core.Path.{◌≡◌, refl}
-use native.Mathlib.Omega.{arith}
+use mathlib.Core.Path.{◌≡◌}
 use Prim.Native.Nat.{◌≤◌, ◌-◌}
-use lib.ListN.{length, get_or, drop}
-use borrow.Author.Tests.{lt-ltb, le-ltb}
-use Rattle.texts.specs.Hex.{hex_value, is_hex}
-use Rattle.texts.proofs.HexLaws.{hex_end, hex_at}
+use lib.ListN.{length, drop}
+use Rattle.texts.specs.Hex.{is_hex}
 use Rattle.texts.proofs.hex.is_hex.Given as goal
 
 abbrev pub invariant-loop-i : goal.invariant-loop-i

@@ -3,10 +3,9 @@
 use borrow.Author.Rules.{rules}
 use mathlib.Core.Path.{◌≡◌}
 use native.Mathlib.Omega.{arith}
-use Prim.Native.Nat.{◌+◌, ◌-◌, ◌*◌, ◌≤◌, ◌<◌}
-use lib.ListN.{length, take}
+use Prim.Native.Nat.{◌+◌, ◌*◌, ◌<◌}
+use lib.ListN.{length}
 use lib.Seq.{take_all}
-use Rattle.laws.specs.Wrote.{Wrote}
 use Rattle.laws.proofs.WroteLaws.{wrote_then, wrote_none}
 use Rattle.texts.specs.Hex.{bytes_of}
 use Rattle.texts.proofs.HexLaws.{hex_digit, bytes_more}

@@ -1,15 +1,10 @@
 -- `texts::hex::pairs` meets its contract. The first i bytes are written.
 -- Assumes nothing.
-use borrow.Author.Rules.{rules}
 use mathlib.Core.Path.{◌≡◌}
-use native.Mathlib.Omega.{arith}
-use Prim.Native.Nat.{◌+◌, ◌-◌, ◌*◌, ◌≤◌, ◌<◌}
+use Prim.Native.Nat.{◌-◌, ◌*◌, ◌≤◌}
 use lib.ListN.{length, take}
-use lib.Seq.{take_all}
 use Rattle.laws.specs.Wrote.{Wrote}
-use Rattle.laws.proofs.WroteLaws.{wrote_then, wrote_none}
 use Rattle.texts.specs.Hex.{bytes_of}
-use Rattle.texts.proofs.HexLaws.{hex_digit, bytes_more}
 use Rattle.texts.proofs.hex.pairs.Given as goal
 
 abbrev pub invariant-loop-i : goal.invariant-loop-i

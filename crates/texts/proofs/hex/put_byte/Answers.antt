@@ -1,6 +1,5 @@
 -- `texts::hex::put_byte` meets its contract.
 -- Assumes nothing.
-use borrow.Author.Rules.{rules}
 use Rattle.laws.proofs.WroteLaws.{wrote_then}
 use Rattle.texts.specs.Hex.{hex_byte}
 use Rattle.texts.proofs.hex.put_byte.Goals as goal

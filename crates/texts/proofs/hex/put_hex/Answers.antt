@@ -1,11 +1,10 @@
 -- `texts::hex::put_hex` meets its contract. The digits of the first i bytes are written.
 -- Assumes nothing.
 use borrow.Author.Rules.{rules}
-use mathlib.Core.Path.{◌≡◌}
 use mathlib.Core.List.{List, flat_map}
 use native.Mathlib.Omega.{arith}
-use Prim.Native.Nat.{ℕ, ◌+◌, ◌-◌, ◌*◌, ◌≤◌}
-use lib.ListN.{length, take, get_or}
+use Prim.Native.Nat.{ℕ, ◌+◌, ◌*◌, ◌≤◌}
+use lib.ListN.{get_or}
 use lib.Seq.{take_all}
 use Rattle.laws.specs.Wrote.{Wrote}
 use Rattle.laws.proofs.WroteLaws.{wrote_then, wrote_none}

@@ -1,16 +1,11 @@
 -- `texts::hex::put_hex` meets its contract. The digits of the first i bytes are written.
 -- Assumes nothing.
-use borrow.Author.Rules.{rules}
 use mathlib.Core.Path.{◌≡◌}
-use mathlib.Core.List.{List, flat_map}
-use native.Mathlib.Omega.{arith}
-use Prim.Native.Nat.{ℕ, ◌+◌, ◌-◌, ◌*◌, ◌≤◌}
-use lib.ListN.{length, take, get_or}
-use lib.Seq.{take_all}
+use mathlib.Core.List.{flat_map}
+use Prim.Native.Nat.{◌+◌, ◌-◌, ◌*◌, ◌≤◌}
+use lib.ListN.{length, take}
 use Rattle.laws.specs.Wrote.{Wrote}
-use Rattle.laws.proofs.WroteLaws.{wrote_then, wrote_none}
-use Rattle.texts.specs.Hex.{hex_byte, hex_of}
-use Rattle.texts.proofs.HexLaws.{flat_more}
+use Rattle.texts.specs.Hex.{hex_byte}
 use Rattle.texts.proofs.hex.put_hex.Given as goal
 
 abbrev pub invariant-loop-i : goal.invariant-loop-i

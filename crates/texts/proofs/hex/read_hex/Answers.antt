@@ -1,11 +1,9 @@
 -- `texts::hex::read_hex` meets its contract.
 -- Assumes nothing.
-use borrow.Author.Rules.{rules}
 use mathlib.Core.Path.{◌≡◌, refl, sym, ◌∙◌}
 use Prim.Native.Nat.{ℕ, ◌*◌, ◌/◌, ◌%◌}
 use native.Mathlib.Omega.{arith}
 use lib.ListN.{length}
-use borrow.Author.Tests.{not-true, not-false}
 use Rattle.texts.specs.Hex.{left_by}
 use Rattle.texts.proofs.HexLaws.{read_other, read_odd, read_long, read_all}
 use Rattle.texts.proofs.hex.read_hex.Goals as goal

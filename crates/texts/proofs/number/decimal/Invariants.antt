@@ -1,11 +1,9 @@
 -- `texts::number::decimal` meets its contract. The number so far, with the rest behind it, is that of the whole.
 -- Assumes nothing.
-use borrow.Author.Rules.{rules}
-use mathlib.Core.Path.{◌≡◌, refl, sym, ap, ◌∙◌}
+use mathlib.Core.Path.{◌≡◌}
 use Prim.Native.Nat.{◌-◌, ◌≤◌}
 use lib.ListN.{length, drop}
-use Rattle.texts.specs.Number.{number_from, number_is}
-use Rattle.texts.proofs.NumberLaws.{decimal_none, decimal_some, number_end, number_none, number_next}
+use Rattle.texts.specs.Number.{number_from}
 use Rattle.texts.proofs.number.decimal.Given as goal
 
 abbrev pub invariant-loop-i : goal.invariant-loop-i

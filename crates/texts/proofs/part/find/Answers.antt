@@ -1,11 +1,9 @@
 -- `texts::part::find` meets its contract.
 -- Assumes nothing.
 use borrow.Author.Rules.{rules}
-use mathlib.Core.Path.{◌≡◌, refl, ap}
+use mathlib.Core.Path.{refl, ap}
 use native.Mathlib.Omega.{arith}
-use Prim.Native.Nat.{◌+◌, ◌≤◌, ◌-◌}
-use lib.ListN.{length, drop}
-use Rattle.texts.specs.Part.{before}
+use lib.ListN.{length}
 use Rattle.texts.proofs.PartLaws.{before_end, before_here, before_on}
 use Rattle.texts.proofs.part.find.Goals as goal
 

@@ -1,12 +1,9 @@
 -- `texts::part::find` meets its contract.
 -- Assumes nothing.
-use borrow.Author.Rules.{rules}
-use mathlib.Core.Path.{◌≡◌, refl, ap}
-use native.Mathlib.Omega.{arith}
+use mathlib.Core.Path.{◌≡◌}
 use Prim.Native.Nat.{◌+◌, ◌≤◌, ◌-◌}
 use lib.ListN.{length, drop}
 use Rattle.texts.specs.Part.{before}
-use Rattle.texts.proofs.PartLaws.{before_end, before_here, before_on}
 use Rattle.texts.proofs.part.find.Given as goal
 
 abbrev pub invariant-loop-i : goal.invariant-loop-i

@@ -1,6 +1,5 @@
 -- `texts::part::next` meets its contract.
 -- Assumes nothing.
-use borrow.Author.Rules.{rules}
 use native.Mathlib.Omega.{arith}
 use Rattle.texts.proofs.PartLaws.{next_here, next_end}
 use Rattle.texts.proofs.part.next.Goals as goal

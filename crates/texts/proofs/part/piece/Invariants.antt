@@ -1,12 +1,9 @@
 -- `texts::part::piece` meets its contract. After i pieces the rest starts at the place.
 -- Assumes nothing.
-use borrow.Author.Rules.{rules}
-use mathlib.Core.Path.{◌≡◌, ◌∙◌}
+use mathlib.Core.Path.{◌≡◌}
 use Prim.Native.Nat.{◌-◌, ◌≤◌}
-use native.Mathlib.Nat.{sub-zero}
 use lib.ListN.{length, drop}
 use Rattle.texts.specs.Part.{piece_of}
-use Rattle.texts.proofs.PartLaws.{piece_next, piece_here}
 use Rattle.texts.proofs.part.piece.Given as goal
 
 abbrev pub invariant-loop-i : goal.invariant-loop-i

@@ -1,6 +1,5 @@
 -- `texts::part::rest` meets its contract.
 -- Assumes nothing.
-use borrow.Author.Rules.{rules}
 use mathlib.Core.Path.{◌∙◌}
 use Rattle.laws.proofs.ListLaws.{from_place}
 use Rattle.texts.proofs.part.rest.Goals as goal

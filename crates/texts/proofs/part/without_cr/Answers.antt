@@ -1,6 +1,5 @@
 -- `texts::part::without_cr` meets its contract.
 -- Assumes nothing.
-use borrow.Author.Rules.{rules}
 use native.Mathlib.Nat.{sub-zero}
 use Rattle.texts.proofs.PartLaws.{cr_here, cr_none, cr_nothing}
 use Rattle.texts.proofs.part.without_cr.Goals as goal

@@ -1,6 +1,5 @@
 -- `texts::say::command_of` meets its contract, test by test.
 -- Assumes nothing.
-use borrow.Author.Rules.{rules}
 use mathlib.Core.Path.{sym, ◌∙◌}
 use mathlib.Core.Bool.{false≢true}
 use Rattle.texts.proofs.SayLaws.{command_ax25, command_long, command_generic, command_none}

@@ -1,6 +1,5 @@
 -- `texts::say::put_error` meets its contract.
 -- Assumes nothing.
-use borrow.Author.Rules.{rules}
 use Rattle.texts.specs.Say.{error_line}
 use Rattle.texts.proofs.say.put_error.Goals as goal
 

@@ -1,6 +1,5 @@
 -- `texts::say::put_line` meets its contract.
 -- Assumes nothing.
-use borrow.Author.Rules.{rules}
 use native.Mathlib.Omega.{arith}
 use Rattle.laws.proofs.WroteLaws.{wrote_then}
 use Rattle.texts.specs.Say.{numbered_line}

@@ -1,6 +1,5 @@
 -- `texts::say::put_unread` meets its contract, by cases.
 -- Assumes nothing.
-use borrow.Author.Rules.{rules}
 use Rattle.laws.proofs.WroteLaws.{wrote_none}
 use Rattle.texts.specs.Say.{unread_line}
 use Rattle.texts.proofs.say.put_unread.Goals as goal

@@ -1,6 +1,5 @@
 -- `texts::say::put_word` meets its contract: the table is the definition's.
 -- Assumes nothing.
-use borrow.Author.Rules.{rules}
 use Prim.Native.Nat.{◌≤◌}
 use native.Mathlib.Omega.{arith}
 use lib.ListN.{length}

@@ -1,6 +1,5 @@
 -- `texts::show::put_number` meets its contract.
 -- Assumes nothing.
-use borrow.Author.Rules.{rules}
 use native.Mathlib.Omega.{arith}
 use Rattle.laws.proofs.WroteLaws.{wrote_then}
 use Rattle.texts.specs.Hex.{hex_byte}

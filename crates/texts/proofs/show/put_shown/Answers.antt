@@ -1,13 +1,10 @@
 -- `texts::show::put_shown` meets its contract. The first i bytes are shown.
 -- Assumes nothing.
 use borrow.Author.Rules.{rules}
-use mathlib.Core.Path.{◌≡◌}
 use mathlib.Core.List.{flat_map}
 use native.Mathlib.Omega.{arith}
-use Prim.Native.Nat.{◌+◌, ◌-◌, ◌*◌, ◌≤◌}
-use lib.ListN.{length, take, get_or}
+use lib.ListN.{get_or}
 use lib.Seq.{take_all}
-use Rattle.laws.specs.Wrote.{Wrote}
 use Rattle.laws.proofs.WroteLaws.{wrote_then, wrote_none}
 use Rattle.texts.specs.Show.{shown_byte, shown}
 use Rattle.texts.proofs.HexLaws.{flat_more}

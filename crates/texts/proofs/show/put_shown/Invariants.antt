@@ -1,17 +1,11 @@
 -- `texts::show::put_shown` meets its contract. The first i bytes are shown.
 -- Assumes nothing.
-use borrow.Author.Rules.{rules}
 use mathlib.Core.Path.{◌≡◌}
 use mathlib.Core.List.{flat_map}
-use native.Mathlib.Omega.{arith}
 use Prim.Native.Nat.{◌+◌, ◌-◌, ◌*◌, ◌≤◌}
-use lib.ListN.{length, take, get_or}
-use lib.Seq.{take_all}
+use lib.ListN.{length, take}
 use Rattle.laws.specs.Wrote.{Wrote}
-use Rattle.laws.proofs.WroteLaws.{wrote_then, wrote_none}
-use Rattle.texts.specs.Show.{shown_byte, shown}
-use Rattle.texts.proofs.HexLaws.{flat_more}
-use Rattle.texts.proofs.ShowLaws.{shown_few}
+use Rattle.texts.specs.Show.{shown_byte}
 use Rattle.texts.proofs.show.put_shown.Given as goal
 
 abbrev pub invariant-loop-i : goal.invariant-loop-i
