@@ -2,14 +2,10 @@
 -- Assumes nothing.
 use Rattle.std.proofs.Common.{◌≡◌, ℕ, length, replicate, sym}
 use lib.ListN.{length-replicate}
-use Rattle.replay.proofs.room.Statement.{statement}
-use Rattle.replay.proofs.room.Tie as tie
+use Rattle.replay.proofs.room.Goals as goal
 
 known : 4194304 ≡ length {0} {A = ℕ} (replicate {0} {A = ℕ} 4194304 0)
 known = sym (length-replicate {0} {A = ℕ} 4194304 0)
 
-returns : tie.Need-returns
+pub returns : goal.returns
 returns c = known
-
-pub room-spec : {M : Type 1} → statement M
-room-spec = tie.close (tie.spec returns)
