@@ -1,4 +1,4 @@
-//! Links the archive that `rt staticlib xara` writes.
+//! Links the archive that `./archive` writes.
 
 use std::env;
 

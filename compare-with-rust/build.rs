@@ -1,4 +1,4 @@
-//! Links the archive that `rt staticlib xara` writes, and writes the decoder of the mended reading: the source's ax25.rs with one
+//! Links the archive that `./archive` writes, and writes the decoder of the mended reading: the source's ax25.rs with one
 //! sentence of document 02 in it.
 
 use std::{env, fs};

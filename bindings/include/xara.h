@@ -1,7 +1,7 @@
 /*
  * xara.h: the packet coding of the gateway, for C and C++.
  *
- * Link libxara.a, which `rt staticlib xara` writes to target/staticlib. It is for x86-64 Linux, needs no other library than C's,
+ * Link libxara.a, which `./archive` writes to target/staticlib. It is for x86-64 Linux, needs no other library than C's,
  * allocates nothing and keeps nothing between calls: threads may call it at once, each with its own outputs and stores. No call takes
  * more than 8 KiB of stack, and the deepest, xara_decode, takes less than 3: bindings/stack counts it from the archive's code, without
  * the arguments that cross by value, and without what the C library's memcpy, memmove and memset and its loader take.

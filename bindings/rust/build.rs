@@ -1,4 +1,4 @@
-//! Links libxara.a, which `rt staticlib xara` writes: from the folder that XARA_LIB_DIR names, or from target/staticlib of the
+//! Links libxara.a, which `./archive` writes: from the folder that XARA_LIB_DIR names, or from target/staticlib of the
 //! repository.
 
 use std::env;
@@ -10,7 +10,7 @@ fn main() {
     let archive = folder.join("libxara.a");
     assert!(
         archive.is_file(),
-        "there is no {}: write it by `rt staticlib xara` in the repository, or name its folder in XARA_LIB_DIR",
+        "there is no {}: write it by `./archive` in the repository, or name its folder in XARA_LIB_DIR",
         archive.display()
     );
     println!("cargo:rerun-if-changed={}", archive.display());

@@ -1,5 +1,5 @@
 //! The packet coding of the gateway, proved: coder, fragments, frames, receiver and decoder, over the archive `libxara.a` that
-//! `rt staticlib xara` writes.
+//! `./archive` writes.
 //!
 //! A report travels one way: data, message, fragments, frames, the air, message, data.
 //!
