@@ -3,10 +3,8 @@ ghost use Rattle.std.specs.Prelude.{◌≡◌, ◌^◌, ◌≤◌, ◌<◌, leng
 ghost use Rattle.laws.specs.Pick.{pick};
 ghost use Rattle.laws.specs.Text.{starts};
 ghost use Rattle.laws.specs.Wrote.{Wrote};
-ghost use Rattle.ax25_aprs.specs.Words.{word, word_letters, word_at};
+ghost use Rattle.ax25_aprs.specs.Words.{word, word_at};
 ghost use Rattle.ax25_aprs.specs.Openings.{first_letter, second_letter, may_open, has_mark};
-
-use ax25_token::encode::starts;
 
 // Eight letters a word, with zeros after it.
 const DICTIONARY: [u8; 72] =
@@ -17,12 +15,12 @@ const FIRSTS: u64 = 0x0001_8002_0041_0192;
 
 const SECONDS: u64 = 0x0000_020A_0001_0042;
 
-// Letter j of word n. The table is lent: each use of a constant would copy it.
-fn letter(letters: &[u8; 72], n: usize, j: usize) -> u8
-    requires { (letters.now ≡ word_letters) × (1 ≤ n) × (n ≤ 9) × (j < 8) }
+// Letter j of word n.
+pub fn letter(n: usize, j: usize) -> u8
+    requires { (1 ≤ n) × (n ≤ 9) × (j < 8) }
     ensures { result ≡ get_or (word n) j 0 }
 {
-    letters[(n - 1) * 8 + j]
+    DICTIONARY[(n - 1) * 8 + j]
 }
 
 // How many letters word n has.
@@ -43,11 +41,31 @@ pub fn size_of(n: usize) -> usize
     }
 }
 
-// n where s starts with w, or 0.
-fn word_if(s: &[u8], w: &[u8], n: usize) -> usize
-    ensures { result ≡ pick (starts w.now s.now) n 0 }
+// s starts with word n.
+fn starts_with(s: &[u8], n: usize) -> bool
+    requires { (1 ≤ n) × (n ≤ 9) }
+    ensures { result ≡ starts (word n) s.now }
 {
-    if starts(s, w) {
+    let size = size_of(n);
+    if s.len() < size {
+        return false;
+    }
+    let mut j = 0;
+    while j < size {
+        if s[j] != letter(n, j) {
+            return false;
+        }
+        j += 1;
+    }
+    true
+}
+
+// n where s starts with word n, or 0.
+fn word_if(s: &[u8], n: usize) -> usize
+    requires { (1 ≤ n) × (n ≤ 9) }
+    ensures { result ≡ pick (starts (word n) s.now) n 0 }
+{
+    if starts_with(s, n) {
         return n;
     }
     0
@@ -62,15 +80,15 @@ pub fn word_at(s: &[u8]) -> usize
     }
     let x = s[0];
     match x {
-        b'/' => word_if(s, b"/A=00", 1),
-        b'V' => word_if(s, b"VARA", 2),
-        b'P' => word_if(s, b"PinPoint", 3),
-        b'H' => word_if(s, b"HF ", 4),
-        b'a' => word_if(s, b"ack", 5),
-        b'A' => word_if(s, b"APRS", 6),
-        b'p' => word_if(s, b"ping{", 7),
-        b'D' => word_if(s, b"Digi", 8),
-        b'G' => word_if(s, b"Gate", 9),
+        b'/' => word_if(s, 1),
+        b'V' => word_if(s, 2),
+        b'P' => word_if(s, 3),
+        b'H' => word_if(s, 4),
+        b'a' => word_if(s, 5),
+        b'A' => word_if(s, 6),
+        b'p' => word_if(s, 7),
+        b'D' => word_if(s, 8),
+        b'G' => word_if(s, 9),
         _ => 0,
     }
 }
@@ -130,12 +148,11 @@ pub fn put_word(out: &mut [u8], at: usize, n: usize) -> usize
     requires { (1 ≤ n) × (n ≤ 9) × (at < 2 ^ 61) }
     ensures { Wrote out.old at (word n) out.new result }
 {
-    let letters = &DICTIONARY;
     let size = size_of(n);
     let mut next = at;
     let mut j = 0;
     while j < size {
-        next = bits_write::byte(out, next, letter(letters, n, j));
+        next = bits_write::byte(out, next, letter(n, j));
         j += 1;
     }
     next

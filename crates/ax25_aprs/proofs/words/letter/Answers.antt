@@ -1,8 +1,9 @@
 -- `ax25_aprs::words::letter` meets its contract, by the rule of its table.
 -- Assumes nothing.
-use borrow.Author.Rules.{rules}
+use Rattle.ax25_aprs.specs.Words.{word_letters}
 use Rattle.ax25_aprs.proofs.Dictionary.{letter_is}
 use Rattle.ax25_aprs.proofs.words.letter.Goals as goal
 
 pub returns : goal.returns
-returns c = rw c.requires.0 (letter_is c.args.n c.args.j c.requires.1 c.requires.2 c.requires.3)
+unfolding word_letters
+returns c = letter_is c.args.n c.args.j c.requires.0 c.requires.1 c.requires.2

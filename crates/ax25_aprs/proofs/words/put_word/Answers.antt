@@ -18,10 +18,9 @@ pub loop-j-init : goal.loop-j-init
 loop-j-init c = (search rules, search rules, search rules, λ e r h. h)
 
 pub letter-requires : goal.letter-requires
-unfolding word_letters
 letter-requires c =
     let a = c.args in
-    (refl, search rules, search rules, omega (arith, c.size_of-size.ensures, word_size a.n (omega arith) (omega arith)))
+    (search rules, search rules, omega (arith, c.size_of-size.ensures, word_size a.n (omega arith) (omega arith)))
 
 pub byte-next-requires : goal.byte-next-requires
 byte-next-requires c =
