@@ -132,7 +132,7 @@ examples : (codes coded ≡ true) × (reads false read ≡ true) × (reads_both 
 unfolding codes codes_as coded reads reads_as read reads_both read_both odd num bits_of value_of pick between upper same is_one_of starts later position take_bits take_text stops next_val val_from val_of call_alphabet long sym_of alpha_of wide_tokens wide_row pair_rows pair_texts fixed_rows numbered_rows hyphened base_of behind number_at two_digits decimal suffix pair_bits pairs_bits fixed_bits takes numbered_bits spell ending plain_ap ap_bits spelled_bits or_else token_bits after pair_form fixed_form numbered_form symbol_form form_of wide_number read_pair read_number letter_of go_on read_letters read_spelled read_form read_token
 examples = (refl, refl, refl)
 
--- ---- a token whose index is not that of WIDE, whatever follows: `token-same` at CQ
+-- ---- a token whose index is not that of WIDE, whatever follows: `token_same` at CQ
 
 cq_same : (l : ℕ) (rest : List Bool) → read_token true l (bits_of 6 43 ++ rest) ≡ read_token false l (bits_of 6 43 ++ rest)
 cq_same l rest =

@@ -1,4 +1,4 @@
--- Lemmas of `demand-3`, for its part `delivers`: the frames of messages that are any bytes the sender accepts have their answers, with idle
+-- Lemmas of `demand_3`, for its part `delivers`: the frames of messages that are any bytes the sender accepts have their answers, with idle
 -- calls anywhere between.
 -- Assumes nothing.
 use mathlib.Core.Path.{◌≡◌, refl, ap, ap₂, ◌∙◌}

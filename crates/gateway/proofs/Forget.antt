@@ -1,4 +1,4 @@
--- Lemmas of `demand-3`, for its part `forgets`: each answer is the one that a fresh receiver gives to the same call after only the calls since
+-- Lemmas of `demand_3`, for its part `forgets`: each answer is the one that a fresh receiver gives to the same call after only the calls since
 -- the last ending before it, or since the start, in lists of fewer than 2^64 pushes and joins.
 -- Assumes nothing.
 use mathlib.Core.Path.{◌≡◌, refl, sym, ap, ap₂, ◌∙◌}

@@ -1,4 +1,4 @@
--- Lemmas of `demand-3`, for its part `delivers`: what is handed out is the messages, and each decodes to the original bytes.
+-- Lemmas of `demand_3`, for its part `delivers`: what is handed out is the messages, and each decodes to the original bytes.
 -- Assumes nothing.
 use mathlib.Core.Path.{◌≡◌, refl, sym, ap, ◌∙◌}
 use mathlib.Core.Bool.{Bool, true, false}

@@ -63,7 +63,7 @@ abbrev pub Few : List Call → Type 0
 Few cs = offers cs < 2 ^ 64
 
 -- "A push or join is idle where it is refused, its frame has another length, or n is 0 or beyond f". (With an accepted mask and a store of
--- 5,000 bytes it is refused only for its field, up to 2^64 pushes and joins in all: `never-refused` in proofs/Idle.)
+-- 5,000 bytes it is refused only for its field, up to 2^64 pushes and joins in all: `never_refused` in proofs/Idle.)
 abbrev pub idle : Call → Bool
 idle (push f field) =
     not (field_ok field)

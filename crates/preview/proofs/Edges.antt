@@ -109,7 +109,7 @@ frame_sent =
 pub frame_in : preview_of Ax25 frame 5 0xF0 ≡ priced_in (code_into (code_of Ax25 frame) (replicate 5000 0)) 5 0xF0 (replicate 512 0)
 frame_in = preview_is Ax25 frame 5 0xF0 (replicate 5000 0) (replicate 512 0) (omega (arith, length-replicate {A = ℕ} 5000 0)) (omega (arith, length-replicate {A = ℕ} 512 0))
 
--- a preview that is refused, as `preview-never` has it
+-- a preview that is refused, as `preview_never` has it
 pub crowded : preview_of Generic (replicate 34 0x80) 3 0xF0 ≡ refused 12
 unfolding top_of pick ceiling count_of most_of send_of any_high generic_of code_of preview_of
 crowded = refl

@@ -1,4 +1,4 @@
--- The cases of `pushOf`, one law for each.
+-- The cases of `push_of`, one law for each.
 -- Assumes nothing.
 use mathlib.Core.Path.{◌≡◌}
 use mathlib.Core.Bool.{true, false}

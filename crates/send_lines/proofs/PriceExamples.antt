@@ -64,7 +64,7 @@ frame_refused = ap (λ (o : Outcome Coded). coded_price o 2 0xF0) frame_coded �
 pub frame_none : data_text 2 0xF0 Ax25 frame ≡ refusal_line 8
 frame_none = price_refused 2 0xF0 Ax25 frame 8 frame_refused
 
--- the premise of `send-refused`
+-- the premise of `send_refused`
 pub frame_refuses : refusing (data_text 2 0xF0 Ax25 frame) ≡ true
 frame_refuses = ap refusing frame_none ∙ refusal_refuses 8
 

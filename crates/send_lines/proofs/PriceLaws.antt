@@ -1,5 +1,5 @@
--- `price` refuses a line exactly where `send` does, and then both say the same: `price-refused`, `price-accepted` and `send-refused` for data under
--- a command, `lines-alike`, `lines-refused` and `refused-same` for lines. Where `price` says "N bytes, K frames", `send` writes K lines (`price-lines`).
+-- `price` refuses a line exactly where `send` does, and then both say the same: `price_refused`, `price_accepted` and `send_refused` for data under
+-- a command, `lines_alike`, `lines_refused` and `refused_same` for lines. Where `price` says "N bytes, K frames", `send` writes K lines (`price_lines`).
 -- Assumes nothing.
 use mathlib.Core.Path.{◌≡◌, refl, sym, ap, ◌∙◌}
 use mathlib.Core.Bool.{Bool, true, false, ◌&&◌, not, false≢true}
@@ -173,7 +173,7 @@ numeral_first (suc k) n rest =
 
 -- ---- texts that are refusals
 
--- a text that starts with "refused ", as every refusal does (`refusal-refuses`) and no error, price or frame
+-- a text that starts with "refused ", as every refusal does (`refusal_refuses`) and no error, price or frame
 unfoldable pub refusing : List ℕ → Bool
 refusing t = starts (ascii "refused ") t
 

@@ -33,6 +33,6 @@ module _ (message : List ℕ) (field mask : ℕ) (low : 3 ≤ field) where
   pub fragment_last : (k : ℕ) → suc (suc k) ≡ count_of (length message) field → 2 ≤ length (fragment_of message field mask (suc k))
   fragment_last k h = omega (arith, later_starts (suc k) (omega arith) (omega arith), length_later (suc k) (omega arith))
 
-  -- 2 is the least for every field: of a message that takes three fragments (`count-three`)
+  -- 2 is the least for every field: of a message that takes three fragments (`count_three`)
   pub shortest_last : length message + 1 ≡ 2 * field → length (fragment_of message field mask 2) ≡ 2
   shortest_last size = omega (arith, length_later 2 (omega arith))

@@ -43,7 +43,7 @@ lead_of first k count = pick (ltb (suc k) count) (first + 0x80) first
 
 -- fragment k, counted from 0: "the message's first byte, 80 set on all but the last; in the first of several, a check byte; then the
 -- next message bytes. Each fragment has at most field bytes." For "of several fragments each one before the last has exactly field bytes,
--- where 01 said at most, and .. the last has at least 2" (02, E1) see `fragment-full` and `fragment-last` in proofs/FullLaws
+-- where 01 said at most, and .. the last has at least 2" (02, E1) see `fragment_full` and `fragment_last` in proofs/FullLaws
 unfoldable pub fragment_of : List ℕ → ℕ → ℕ → ℕ → List ℕ
 fragment_of message field mask zero =
     pick (leb (length message) field)
@@ -82,7 +82,7 @@ split_of (first ∷ rest) field mask =
 -- ---- the answer of `fragment`
 
 -- "the mask must leave room for count − 2": the largest count. For "With w check bits the sender accepts counts to 2^(8 − w) + 1" (02, E11) see
--- `mask-for` in proofs/MaskLaws
+-- `mask_for_lem` in proofs/MaskLaws
 unfoldable pub most_of : ℕ → ℕ
 most_of mask = 255 - mask + 2
 
