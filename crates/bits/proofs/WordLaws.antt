@@ -40,13 +40,18 @@ part_in l o n w v h e =
     sym (mid_bits o n j v) ∙ ap (λ (x : ℕ). take n (drop o (bits_of x v))) (sym all) ∙ ap (λ (x : List Bool). take n (drop o x)) e ∙ front_part o n w l h
 
 -- n bits from a position on, in a word of eight bytes that holds them all, j bits in front of its end
-pub part_of : (b : List Bool) (at i n w j : ℕ) → i * 8 ≤ at → at + n + j ≡ i * 8 + 64 → bits_of 64 w ≡ take 64 (drop (i * 8) b)
+pub part_at : (b : List Bool) (at i n w j : ℕ) → i * 8 ≤ at → at + n + j ≡ i * 8 + 64 → bits_of 64 w ≡ take 64 (drop (i * 8) b)
     → bits_of n (w / 2 ^ j) ≡ take n (drop at b)
-part_of b at i n w j h k e =
+part_at b at i n w j h k e =
     let o = at - i * 8 in
     let p : i * 8 + o ≡ at = omega arith in
     let f : j ≡ 64 - (o + n) = omega arith in
     rw f (part_in (drop (i * 8) b) o n 64 w (omega arith) e ∙ rw (drop-drop o (i * 8) b, p))
+
+-- n bits from a position on, in the word of the eight bytes that it stands in
+pub part_of : (b : List Bool) (at n w : ℕ) → at % 8 + n ≤ 64 → bits_of 64 w ≡ take 64 (drop (at / 8 * 8) b)
+    → bits_of n (w / 2 ^ (64 - (at % 8 + n))) ≡ take n (drop at b)
+part_of b at n w h e = part_at b at (at / 8) n w (64 - (at % 8 + n)) (omega arith) (omega arith) e
 
 -- ---- a word and the byte behind it
 

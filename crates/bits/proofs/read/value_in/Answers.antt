@@ -19,6 +19,7 @@ returns c =
     let b = unpack a.s.now in
     let w = c.word.result in
     let o = a.at % 8 in
+    let e : 64 - (o + a.n) ≡ (7 - o) + (57 - a.n) = omega arith in
     let part : bits_of a.n (w / 2 ^ (7 - o) / 2 ^ (57 - a.n)) ≡ take a.n (drop a.at b) =
-    rw shr-shr (part_of b a.at (a.at / 8) a.n w ((7 - o) + (57 - a.n)) (omega arith) (omega arith) c.word.ensures) in
+    rw (shr-shr, ← e) (part_of b a.at a.n w (omega arith) c.word.ensures) in
     rw (← part, value_bits, c.power.ensures)

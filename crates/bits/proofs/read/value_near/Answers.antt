@@ -6,7 +6,7 @@ use Prim.Native.Nat.{◌+◌, ◌-◌, ◌*◌}
 use lib.Pow.{pow_pos}
 use Rattle.laws.specs.Bits.{unpack}
 use Rattle.laws.proofs.BitLaws.{value_bits}
-use Rattle.bits.proofs.WordLaws.{part_of}
+use Rattle.bits.proofs.WordLaws.{part_at}
 use Rattle.bits.proofs.read.value_near.Goals as goal
 
 pub nonzero_rem-result : goal.nonzero_rem-result
@@ -17,4 +17,4 @@ returns c =
     let a = c.args in
     let i = c.least-i.result in
     let w = c.word in
-    rw (← part_of (unpack a.s.now) a.at i a.n w.result (64 + i * 8 - (a.at + a.n)) (omega arith) (omega arith) w.ensures, value_bits, c.power.ensures)
+    rw (← part_at (unpack a.s.now) a.at i a.n w.result (64 + i * 8 - (a.at + a.n)) (omega arith) (omega arith) w.ensures, value_bits, c.power.ensures)
