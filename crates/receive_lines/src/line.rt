@@ -38,6 +38,7 @@ fn put_digits(data: &[u8], out: &mut [u8], at: usize) -> usize
 }
 
 // Data as people read them. The next place.
+#[tactic(auto, using(crate::proofs::LineLaws::readable_generic, crate::proofs::LineLaws::readable_frame, texts::proofs::ShowLaws::shown_length))]
 fn put_readable(command: u8, data: &[u8], out: &mut [u8], at: usize) -> usize
     requires { (length «data».now < 2 ^ 50) × (at < 2 ^ 54) }
     ensures { Wrote out.old at (readable_of command «data».now) out.new result × (result < 2 ^ 60) }

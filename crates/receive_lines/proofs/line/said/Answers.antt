@@ -1,6 +1,5 @@
 -- `receive_lines::line::said` meets its contract, test by test.
 -- Assumes nothing.
-use borrow.Author.Rules.{rules}
 use mathlib.Core.Path.{◌≡◌, sym, ◌∙◌}
 use Rattle.laws.proofs.WroteLaws.{wrote_none}
 use Rattle.texts.specs.Hex.{read_of}

@@ -1,6 +1,5 @@
 -- `send_lines::line::spelled` meets its contract.
 -- Assumes nothing.
-use borrow.Author.Rules.{rules}
 use mathlib.Core.Path.{◌≡◌, sym, ◌∙◌}
 use Rattle.texts.specs.Hex.{read_of}
 use Rattle.texts.proofs.HexLaws.{read_front}
