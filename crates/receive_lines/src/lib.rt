@@ -6,7 +6,6 @@ mod loss;
 
 ghost use Rattle.std.specs.Prelude.{◌≡◌, ◌^◌, ◌≤◌, ◌<◌, length};
 ghost use Rattle.room.specs.Room.{most_decoded};
-ghost use Rattle.texts.specs.Say.{line_room};
 
 use input::{Arguments, Stand, has_word, hold, mask_of, must_wait, next, numbers, print};
 use line::Step;
@@ -83,11 +82,9 @@ fn every<R: Read>(
     let mut chunk = io::buffer();
     let mut line = input::room();
     let mut space = store();
-    let mut frame = input::room();
     let mut data = io::large_buffer();
     lines(
-        reader, receiver, field, &mut chunk, &mut line, &mut space, &mut frame, &mut data, out,
-        mended,
+        reader, receiver, field, &mut chunk, &mut line, &mut space, &mut data, out, mended,
     )
 }
 
@@ -99,12 +96,11 @@ fn lines<R: Read>(
     chunk: &mut [u8],
     line: &mut [u8],
     space: &mut [u8],
-    frame: &mut [u8],
     data: &mut [u8],
     out: &mut [u8],
     mended: bool,
 ) -> End
-    requires { (length chunk.old < 2 ^ 60) × (length line.old < 2 ^ 60) × (line_room ≡ length frame.old) × (most_decoded ≤ length «data».old) × (length «data».old < 2 ^ 50) }
+    requires { (length chunk.old < 2 ^ 60) × (length line.old < 2 ^ 60) × (most_decoded ≤ length «data».old) × (length «data».old < 2 ^ 50) }
 {
     let mut stand = input::start();
     let mut state = receiver;
@@ -122,7 +118,6 @@ fn lines<R: Read>(
             line,
             stand,
             field,
-            frame,
             data,
             &mut out[at..],
             mended,
@@ -145,12 +140,11 @@ fn answer(
     line: &[u8],
     stand: Stand,
     field: usize,
-    frame: &mut [u8],
     data: &mut [u8],
     out: &mut [u8],
     mended: bool,
 ) -> Step
-    requires { (line_room ≡ length frame.old) × (most_decoded ≤ length «data».old) × (length «data».old < 2 ^ 50) }
+    requires { (most_decoded ≤ length «data».old) × (length «data».old < 2 ^ 50) }
 {
     let n = stand.len;
     if line.len() < n {
@@ -165,7 +159,6 @@ fn answer(
         without_cr(front(line, n)),
         stand.number,
         field,
-        frame,
         data,
         out,
         mended,

@@ -5,10 +5,11 @@ ghost use Rattle.kiss.specs.Codec.{decode_of};
 ghost use Rattle.receiver.specs.Join.{heard_of};
 ghost use Rattle.receiver.specs.Tally.{push_tallied};
 ghost use Rattle.room.specs.Room.{most_decoded};
-ghost use Rattle.texts.specs.Say.{line_room, digits_of};
+ghost use Rattle.texts.specs.Say.{digits_of};
 ghost use Rattle.receive_lines.specs.Line.{readable_of, done_text, decoded_text, heard_text, line_text, line_left};
 
 use bits_write::{byte, copy};
+use input::room;
 use kiss::Decoded;
 use monitor::put_monitor;
 use receiver::{Push, Reassembler};
@@ -37,6 +38,7 @@ fn put_digits(data: &[u8], out: &mut [u8], at: usize) -> usize
 }
 
 // Data as people read them. The next place.
+#[tactic(auto, using(crate::proofs::LineLaws::readable_generic, crate::proofs::LineLaws::readable_frame, texts::proofs::ShowLaws::shown_length))]
 fn put_readable(command: u8, data: &[u8], out: &mut [u8], at: usize) -> usize
     requires { (length «data».now < 2 ^ 50) × (at < 2 ^ 54) }
     ensures { Wrote out.old at (readable_of command «data».now) out.new result × (result < 2 ^ 60) }
@@ -108,32 +110,31 @@ fn heard(
     }
 }
 
-// What is said of a line with its number. Nothing is said of an empty line. `frame` and `data` are room for what the line holds and for
-// what a message decodes to.
+// What is said of a line with its number. Nothing is said of an empty line.
 pub fn said(
     receiver: Reassembler,
     store: &mut [u8],
     line: &[u8],
     number: u64,
     field: usize,
-    frame: &mut [u8],
     data: &mut [u8],
     out: &mut [u8],
     mended: bool,
 ) -> Step
-    requires { (line_room ≡ length frame.old) × (most_decoded ≤ length «data».old) × (length «data».old < 2 ^ 50) }
+    requires { (most_decoded ≤ length «data».old) × (length «data».old < 2 ^ 50) }
     ensures { Wrote out.old 0 (line_text mended field number receiver store.old line.now) out.new result.size
         × ((result.receiver, store.new) ≡ line_left field receiver store.old line.now) }
 {
     if line.len() == 0 {
         return Step { size: 0, receiver };
     }
-    let read = read_hex(line, frame);
+    let mut frame = room();
+    let read = read_hex(line, &mut frame);
     let Read::Bytes(n) = read else {
         return Step {
             size: put_unread(out, 0, number, read),
             receiver,
         };
     };
-    heard(receiver, store, front(frame, n), field, data, out, mended)
+    heard(receiver, store, front(&frame, n), field, data, out, mended)
 }

@@ -4,8 +4,7 @@
 
 mod line;
 
-ghost use Rattle.std.specs.Prelude.{◌≡◌, ◌^◌, ◌≤◌, ◌<◌, length};
-ghost use Rattle.texts.specs.Say.{line_room};
+ghost use Rattle.std.specs.Prelude.{◌^◌, ◌<◌, length};
 
 use input::{Arguments, Stand, hold, mask_of, must_wait, next, numbers, print, room};
 use std::env::Env;
@@ -24,8 +23,6 @@ pub fn run<E: Env, R: Read>(env: &E, reader: &mut R, priced: bool) {
     };
     let mut chunk = io::buffer();
     let mut line = room();
-    let mut data = room();
-    let mut message = room();
     let mut out = io::large_buffer();
     lines(
         reader,
@@ -34,8 +31,6 @@ pub fn run<E: Env, R: Read>(env: &E, reader: &mut R, priced: bool) {
         mask_of(mask),
         &mut chunk,
         &mut line,
-        &mut data,
-        &mut message,
         &mut out,
     );
 }
@@ -61,11 +56,9 @@ fn lines<R: Read>(
     mask: u8,
     chunk: &mut [u8],
     line: &mut [u8],
-    data: &mut [u8],
-    message: &mut [u8],
     out: &mut [u8],
 )
-    requires { (length chunk.old < 2 ^ 60) × (length line.old < 2 ^ 60) × (line_room ≡ length «data».old) × (5000 ≤ length message.old) }
+    requires { (length chunk.old < 2 ^ 60) × (length line.old < 2 ^ 60) }
 {
     let mut stand = input::start();
     let mut at: usize = 0;
@@ -76,16 +69,7 @@ fn lines<R: Read>(
             print(out, at);
             return;
         }
-        let n = answer(
-            priced,
-            line,
-            stand,
-            field,
-            mask,
-            data,
-            message,
-            &mut out[at..],
-        );
+        let n = answer(priced, line, stand, field, mask, &mut out[at..]);
         let held = hold(out, at, n, must_wait(stand, chunk), ANSWER);
         if held.failed {
             return;
@@ -102,12 +86,8 @@ fn answer(
     stand: Stand,
     field: usize,
     mask: u8,
-    data: &mut [u8],
-    message: &mut [u8],
     out: &mut [u8],
-) -> usize
-    requires { (line_room ≡ length «data».old) × (5000 ≤ length message.old) }
-{
+) -> usize {
     let n = stand.len;
     if line.len() < n {
         return put_error(out, 0, stand.number, b"too long");
@@ -118,8 +98,6 @@ fn answer(
         stand.number,
         field,
         mask,
-        data,
-        message,
         out,
     )
 }

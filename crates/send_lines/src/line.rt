@@ -1,13 +1,13 @@
 // What is said of a line: the frames of what it holds or their price, a refusal or an error.
-ghost use Rattle.std.specs.Prelude.{◌≡◌, ◌+◌, ◌*◌, ◌^◌, ◌≤◌, ◌<◌, length};
+ghost use Rattle.std.specs.Prelude.{◌+◌, ◌*◌, ◌^◌, ◌≤◌, ◌<◌, length};
 ghost use Rattle.laws.specs.Wrote.{Wrote};
 ghost use Rattle.frame.specs.Frame.{build_of};
 ghost use Rattle.sender.specs.Send.{count_for, send_of};
-ghost use Rattle.texts.specs.Say.{line_room};
 ghost use Rattle.send_lines.specs.Line.{plain, marker, framed_of, frames_of, counted_text, data_text, price_line, price_text, said_of, spelled_text, line_text, Sends};
 
 use bits_write::{byte, copy};
 use frame::Control;
+use input::room;
 use kiss::Encoded;
 use preview::{Previewed, Price};
 use refusals::Answer;
@@ -93,20 +93,13 @@ fn frames(message: &[u8], field: usize, mask: u8, out: &mut [u8]) -> usize
 }
 
 // The frames of data under a command.
-fn coded(
-    command: u8,
-    data: &[u8],
-    field: usize,
-    mask: u8,
-    message: &mut [u8],
-    out: &mut [u8],
-) -> usize
-    requires { 5000 ≤ length message.old }
+fn coded(command: u8, data: &[u8], field: usize, mask: u8, out: &mut [u8]) -> usize
     ensures { Wrote out.old 0 (data_text field mask command «data».now) out.new result }
 {
-    match kiss::encode(command, data, message) {
+    let mut message = room();
+    match kiss::encode(command, data, &mut message) {
         Encoded::Refused(n) => put_refusal(out, 0, n),
-        Encoded::Bytes(n, _) => frames(front(message, n), field, mask, out),
+        Encoded::Bytes(n, _) => frames(front(&message, n), field, mask, out),
     }
 }
 
@@ -131,22 +124,13 @@ fn cost(command: u8, data: &[u8], field: usize, mask: u8, out: &mut [u8]) -> usi
 }
 
 // What `price` says of data under a command, or what `send` says.
-fn of_data(
-    priced: bool,
-    command: u8,
-    data: &[u8],
-    field: usize,
-    mask: u8,
-    message: &mut [u8],
-    out: &mut [u8],
-) -> usize
-    requires { 5000 ≤ length message.old }
+fn of_data(priced: bool, command: u8, data: &[u8], field: usize, mask: u8, out: &mut [u8]) -> usize
     ensures { Wrote out.old 0 (said_of priced field mask command «data».now) out.new result }
 {
     if priced {
         return cost(command, data, field, mask, out);
     }
-    coded(command, data, field, mask, message, out)
+    coded(command, data, field, mask, out)
 }
 
 // What is said of bytes in hexadecimal under a command.
@@ -157,33 +141,20 @@ fn spelled(
     number: u64,
     field: usize,
     mask: u8,
-    data: &mut [u8],
-    message: &mut [u8],
     out: &mut [u8],
 ) -> usize
-    requires { (line_room ≡ length «data».old) × (5000 ≤ length message.old) }
     ensures { Wrote out.old 0 (spelled_text priced field mask number command text.now) out.new result }
 {
-    let read = read_hex(text, data);
+    let mut data = room();
+    let read = read_hex(text, &mut data);
     let Read::Bytes(n) = read else {
         return put_unread(out, 0, number, read);
     };
-    of_data(priced, command, front(data, n), field, mask, message, out)
+    of_data(priced, command, front(&data, n), field, mask, out)
 }
 
-// What `price` says of a line with its number, or what `send` says: how many bytes of `out`. Nothing is said of an empty line. `data` and
-// `message` are room for what the line holds and for its message.
-pub fn said(
-    priced: bool,
-    line: &[u8],
-    number: u64,
-    field: usize,
-    mask: u8,
-    data: &mut [u8],
-    message: &mut [u8],
-    out: &mut [u8],
-) -> usize
-    requires { (line_room ≡ length «data».old) × (5000 ≤ length message.old) }
+// What `price` says of a line with its number, or what `send` says: how many bytes of `out`. Nothing is said of an empty line.
+pub fn said(priced: bool, line: &[u8], number: u64, field: usize, mask: u8, out: &mut [u8]) -> usize
     ensures { Wrote out.old 0 (line_text priced field mask number line.now) out.new result }
 {
     if line.len() == 0 {
@@ -192,13 +163,11 @@ pub fn said(
     let word = piece(line, 0, b' ');
     let text = rest(line, b' ');
     if check::same(word, b"text") {
-        return of_data(priced, 2, text, field, mask, message, out);
+        return of_data(priced, 2, text, field, mask, out);
     }
     let command = command_of(word);
     if 2 < command {
         return put_error(out, 0, number, b"unknown command");
     }
-    spelled(
-        priced, command, text, number, field, mask, data, message, out,
-    )
+    spelled(priced, command, text, number, field, mask, out)
 }

@@ -1,6 +1,5 @@
 -- `receive_lines::answer` is safe and ends.
 -- Assumes nothing.
-use borrow.Author.Rules.{rules}
 use Rattle.receive_lines.proofs.answer.Goals as goal
 
 pub said-requires : goal.said-requires

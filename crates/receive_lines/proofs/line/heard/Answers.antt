@@ -1,6 +1,5 @@
 -- `receive_lines::line::heard` meets its contract.
 -- Assumes nothing.
-use borrow.Author.Rules.{rules}
 use Rattle.receive_lines.proofs.LineLaws.{parted}
 use Rattle.receive_lines.proofs.line.heard.Goals as goal
 

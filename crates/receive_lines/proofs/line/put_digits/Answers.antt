@@ -1,6 +1,5 @@
 -- `receive_lines::line::put_digits` meets its contract.
 -- Assumes nothing.
-use borrow.Author.Rules.{rules}
 use native.Mathlib.Omega.{arith}
 use Rattle.laws.proofs.WroteLaws.{wrote_then, wrote_none}
 use Rattle.texts.proofs.SayLaws.{digits_none, digits_some}

@@ -1,6 +1,5 @@
 -- `receive_lines::line::put_done` meets its contract.
 -- Assumes nothing.
-use borrow.Author.Rules.{rules}
 use native.Mathlib.Omega.{arith}
 use Rattle.laws.proofs.WroteLaws.{wrote_then}
 use Rattle.texts.specs.Say.{spelled_of}

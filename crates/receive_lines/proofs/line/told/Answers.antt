@@ -1,6 +1,5 @@
 -- `receive_lines::line::told` meets its contract, by cases.
 -- Assumes nothing.
-use borrow.Author.Rules.{rules}
 use Rattle.receive_lines.specs.Line.{heard_text}
 use Rattle.receive_lines.proofs.line.told.Goals as goal
 

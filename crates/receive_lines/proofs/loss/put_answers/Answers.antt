@@ -1,6 +1,5 @@
 -- `receive_lines::loss::put_answers` meets its contract.
 -- Assumes nothing.
-use borrow.Author.Rules.{rules}
 use native.Mathlib.Omega.{arith}
 use Rattle.laws.proofs.WroteLaws.{wrote_then}
 use Rattle.receive_lines.specs.Loss.{answers_text}

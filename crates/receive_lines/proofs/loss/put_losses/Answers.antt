@@ -1,6 +1,5 @@
 -- `receive_lines::loss::put_losses` meets its contract.
 -- Assumes nothing.
-use borrow.Author.Rules.{rules}
 use Rattle.laws.proofs.WroteLaws.{wrote_then}
 use Rattle.receive_lines.specs.Loss.{losses_line}
 use Rattle.receive_lines.proofs.loss.put_losses.Goals as goal

@@ -1,6 +1,5 @@
 -- `send_lines::line::coded` meets its contract.
 -- Assumes nothing.
-use borrow.Author.Rules.{rules}
 use mathlib.Core.Path.{ap, ◌∙◌}
 use native.Mathlib.Omega.{arith}
 use lib.ListN.{length}
@@ -19,7 +18,7 @@ pub returns-in-Refused : goal.returns-in-Refused
 unfolding data_text coded_text
 returns-in-Refused c =
     let coding = c.encode in
-    let none = code_refused c.args.command c.args.«data».now _ _ coding.result coding.ensures c.requires _ c.in-Refused.is in
+    let none = code_refused c.args.command c.args.«data».now _ _ coding.result coding.ensures (omega (arith, c.room-message.ensures)) _ c.in-Refused.is in
     rw none c.put_refusal.ensures
 
 pub returns-in-Bytes : goal.returns-in-Bytes

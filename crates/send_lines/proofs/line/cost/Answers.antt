@@ -1,6 +1,5 @@
 -- `send_lines::line::cost` meets its contract.
 -- Assumes nothing.
-use borrow.Author.Rules.{rules}
 use Rattle.send_lines.specs.Line.{priced_text, price_text}
 use Rattle.send_lines.proofs.line.cost.Goals as goal
 

@@ -1,6 +1,5 @@
 -- `send_lines::line::of_data` meets its contract.
 -- Assumes nothing.
-use borrow.Author.Rules.{rules}
 use mathlib.Core.Path.{sym}
 use Rattle.laws.proofs.Cases.{pick_true, pick_false}
 use Rattle.laws.proofs.WroteLaws.{wrote_as}

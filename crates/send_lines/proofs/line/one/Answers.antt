@@ -1,6 +1,5 @@
 -- `send_lines::line::one` meets its contract.
 -- Assumes nothing.
-use borrow.Author.Rules.{rules}
 use mathlib.Core.Path.{refl}
 use Rattle.send_lines.proofs.LineLaws.{fragment_refused, fragment_framed}
 use Rattle.send_lines.proofs.line.one.Goals as goal

@@ -1,6 +1,5 @@
 -- `send_lines::line::put_price` meets its contract.
 -- Assumes nothing.
-use borrow.Author.Rules.{rules}
 use native.Mathlib.Omega.{arith}
 use Rattle.laws.proofs.WroteLaws.{wrote_then}
 use Rattle.texts.proofs.NumberLaws.{numeral_length}

@@ -1,6 +1,5 @@
 -- `send_lines::line::said` meets its contract, test by test.
 -- Assumes nothing.
-use borrow.Author.Rules.{rules}
 use mathlib.Core.Path.{◌≡◌, sym, ◌∙◌}
 use mathlib.Core.Bool.{false≢true}
 use Rattle.laws.specs.Text.{ascii}

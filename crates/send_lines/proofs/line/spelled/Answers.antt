@@ -1,6 +1,5 @@
 -- `send_lines::line::spelled` meets its contract.
 -- Assumes nothing.
-use borrow.Author.Rules.{rules}
 use mathlib.Core.Path.{◌≡◌, sym, ◌∙◌}
 use Rattle.texts.specs.Hex.{read_of}
 use Rattle.texts.proofs.HexLaws.{read_front}
@@ -13,7 +12,7 @@ pub returns-in_default : goal.returns-in_default
 unfolding spelled_text
 returns-in_default c =
     let read = c.read_hex-read in
-    let is : read.result ≡ read_of line_room c.args.text.now = rw (← c.requires.0) at read.ensures.0 in
+    let is : read.result ≡ read_of line_room c.args.text.now = rw (← c.room-data.ensures) at read.ensures.0 in
     rw (← is, unread_by _ _ read.result c.in_default.not-Bytes) c.put_unread.ensures
 
 pub returns : goal.returns
@@ -22,6 +21,6 @@ returns c =
     let read = c.read_hex-read in
     let text = c.args.text.now in
     let told = c.in-Bytes.is in
-    let is : read.result ≡ read_of line_room text = rw (← c.requires.0) at read.ensures.0 in
-    let bytes = read_front line_room text _ _ read.result _ is read.ensures.1 told (sym c.requires.0) in
+    let is : read.result ≡ read_of line_room text = rw (← c.room-data.ensures) at read.ensures.0 in
+    let bytes = read_front line_room text _ _ read.result _ is read.ensures.1 told (sym c.room-data.ensures) in
     rw (← is, told) (rw (c.front.ensures ∙ bytes) at c.of_data.ensures)
