@@ -7,6 +7,7 @@ use mathlib.Core.List.{List, [], ◌∷◌}
 use mathlib.Core.Option.{some, some-injective}
 use Prim.Native.Nat.{ℕ, suc, ◌+◌, ◌*◌, ◌≤◌}
 use native.Mathlib.Omega.{arith}
+use types.Run.{OneOf}
 use lib.ListN.{length, drop}
 use lib.Seq.{drop-drop, drop-cons}
 use lib.Dec.{eqb}
@@ -56,7 +57,13 @@ pub record Own (typ : ℕ) : Type 0 where
   pub not_third : eqb typ ThirdParty ≡ false
   pub more : 2 ≤ typ
 
--- the other three have not
+-- the places of these three among the types
+pub own_place : (n : ℕ) → OneOf (2 ∷ 3 ∷ 4 ∷ []) n → (2 ≤ n) × (n ≤ 4)
+own_place n (inl e) = (omega (arith, e), omega (arith, e))
+own_place n (inr (inl e)) = (omega (arith, e), omega (arith, e))
+own_place n (inr (inr e)) = (omega (arith, e), omega (arith, e))
+
+-- a type that is none of the other three is one of these
 pub own_type : (t : AprsType) → (t ≡ kind.Text → ⊥) × (t ≡ kind.Binary → ⊥) × (t ≡ kind.ThirdParty → ⊥) → Own (type_number t)
 own_type kind.Text h = absurd (h.0 refl)
 own_type kind.Binary h = absurd (h.1 refl)
