@@ -1,6 +1,6 @@
 -- `kiss::decode` meets its contract.
 -- Assumes nothing.
-use borrow.Author.Rules.{rules}
+use native.Mathlib.Omega.{arith}
 use mathlib.Core.Path.{sym, ap, ◌∙◌}
 use Rattle.refusals.specs.Outcome.{Outcome}
 use Rattle.kiss.specs.Codec.{Decoded}
@@ -27,11 +27,11 @@ returns-then-command-eq3 c =
 pub returns-then-command-eq2 : goal.returns-then-command-eq2
 returns-then-command-eq2 c =
     let a = c.args in
-    let e = of_two a.mended a.message.now c.if-message-gt-MAX_MESSAGE.false c.if-message-eq0.false c.if-command-eq3.false c.if-command-eq2.true in
+    let e = of_two a.mended a.message.now c.if-message-gt-MAX_MESSAGE.false c.if-message-eq0.false (λ e. omega (arith, e)) c.if-command-eq2.true in
     c.decode_generic.ensures ∙ ap (λ (o : Outcome Decoded). decode_into o a.out.now) (sym e)
 
 pub returns : goal.returns
 returns c =
     let a = c.args in
-    let e = of_other a.mended a.message.now c.if-message-gt-MAX_MESSAGE.false c.if-message-eq0.false c.if-command-eq3.false c.if-command-eq2.false in
+    let e = of_other a.mended a.message.now c.if-message-gt-MAX_MESSAGE.false c.if-message-eq0.false (λ e. omega (arith, e)) c.if-command-eq2.false in
     c.decode_frame.ensures ∙ ap (λ (o : Outcome Decoded). decode_into o a.out.now) (sym e)
