@@ -51,6 +51,8 @@ pub fn no_number(text: &[u8]) -> Outcome {
 }
 
 // We have bytes.
+// Never inlined: written out after a test, its room on the stack would be made where LLVM still holds a value in the register that it needs for that.
+#[inline(never)]
 pub fn same_bytes(text: &[u8], ours: &[u8]) -> Outcome {
     if is_none(text) {
         return Outcome::Differ;
@@ -73,6 +75,8 @@ pub fn same_first(text: &[u8], out: &[u8], n: usize) -> Outcome {
 }
 
 // We have no answer, where it would be bytes.
+// Never inlined, as `same_bytes`.
+#[inline(never)]
 pub fn no_bytes(text: &[u8]) -> Outcome {
     if is_none(text) {
         return Outcome::Equal;
