@@ -3,8 +3,10 @@ ghost use Rattle.std.specs.Prelude.{◌≡◌, ◌^◌, ◌≤◌, ◌<◌, leng
 ghost use Rattle.laws.specs.Pick.{pick};
 ghost use Rattle.laws.specs.Text.{starts};
 ghost use Rattle.laws.specs.Wrote.{Wrote};
-ghost use Rattle.ax25_aprs.specs.Words.{word, word_at};
+ghost use Rattle.ax25_aprs.specs.Words.{word, word_letters, word_at};
 ghost use Rattle.ax25_aprs.specs.Openings.{first_letter, second_letter, may_open, has_mark};
+
+use ax25_token::encode::starts;
 
 // Eight letters a word, with zeros after it.
 const DICTIONARY: [u8; 72] =
@@ -20,7 +22,15 @@ pub fn letter(n: usize, j: usize) -> u8
     requires { (1 ≤ n) × (n ≤ 9) × (j < 8) }
     ensures { result ≡ get_or (word n) j 0 }
 {
-    DICTIONARY[(n - 1) * 8 + j]
+    letter_in(&DICTIONARY, n, j)
+}
+
+// The same from the table that is lent: each use of a constant would copy it.
+fn letter_in(letters: &[u8; 72], n: usize, j: usize) -> u8
+    requires { (letters.now ≡ word_letters) × (1 ≤ n) × (n ≤ 9) × (j < 8) }
+    ensures { result ≡ get_or (word n) j 0 }
+{
+    letters[(n - 1) * 8 + j]
 }
 
 // How many letters word n has.
@@ -41,23 +51,22 @@ pub fn size_of(n: usize) -> usize
     }
 }
 
-// s starts with word n.
+// s starts with word n. Where n is known the compiler compares with that word alone.
 fn starts_with(s: &[u8], n: usize) -> bool
     requires { (1 ≤ n) × (n ≤ 9) }
     ensures { result ≡ starts (word n) s.now }
 {
-    let size = size_of(n);
-    if s.len() < size {
-        return false;
+    match n {
+        1 => starts(s, b"/A=00"),
+        2 => starts(s, b"VARA"),
+        3 => starts(s, b"PinPoint"),
+        4 => starts(s, b"HF "),
+        5 => starts(s, b"ack"),
+        6 => starts(s, b"APRS"),
+        7 => starts(s, b"ping{"),
+        8 => starts(s, b"Digi"),
+        _ => starts(s, b"Gate"),
     }
-    let mut j = 0;
-    while j < size {
-        if s[j] != letter(n, j) {
-            return false;
-        }
-        j += 1;
-    }
-    true
 }
 
 // n where s starts with word n, or 0.
@@ -148,11 +157,12 @@ pub fn put_word(out: &mut [u8], at: usize, n: usize) -> usize
     requires { (1 ≤ n) × (n ≤ 9) × (at < 2 ^ 61) }
     ensures { Wrote out.old at (word n) out.new result }
 {
+    let letters = &DICTIONARY;
     let size = size_of(n);
     let mut next = at;
     let mut j = 0;
     while j < size {
-        next = bits_write::byte(out, next, letter(n, j));
+        next = bits_write::byte(out, next, letter_in(letters, n, j));
         j += 1;
     }
     next

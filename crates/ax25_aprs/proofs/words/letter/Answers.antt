@@ -1,9 +1,10 @@
--- `ax25_aprs::words::letter` meets its contract, by the rule of its table.
+-- `ax25_aprs::words::letter` meets its contract: the table is the definition's.
 -- Assumes nothing.
+use borrow.Author.Rules.{rules}
+use mathlib.Core.Path.{refl}
 use Rattle.ax25_aprs.specs.Words.{word_letters}
-use Rattle.ax25_aprs.proofs.Dictionary.{letter_is}
 use Rattle.ax25_aprs.proofs.words.letter.Goals as goal
 
-pub returns : goal.returns
+pub letter_in-requires : goal.letter_in-requires
 unfolding word_letters
-returns c = letter_is c.args.n c.args.j c.requires.0 c.requires.1 c.requires.2
+letter_in-requires c = (refl, search rules, search rules, search rules)

@@ -17,10 +17,11 @@ use Rattle.ax25_aprs.proofs.words.put_word.Goals as goal
 pub loop-j-init : goal.loop-j-init
 loop-j-init c = (search rules, search rules, search rules, λ e r h. h)
 
-pub letter-requires : goal.letter-requires
-letter-requires c =
+pub letter_in-requires : goal.letter_in-requires
+unfolding word_letters
+letter_in-requires c =
     let a = c.args in
-    (search rules, search rules, omega (arith, c.size_of-size.ensures, word_size a.n (omega arith) (omega arith)))
+    (refl, search rules, search rules, omega (arith, c.size_of-size.ensures, word_size a.n (omega arith) (omega arith)))
 
 pub byte-next-requires : goal.byte-next-requires
 byte-next-requires c =
@@ -36,7 +37,7 @@ loop-j-preserved c =
       search rules,
       search rules,
       omega (arith, put.ensures.next_is),
-      λ e r h. c.loop-j.invariant.3 e r (rw (drop-cons (word a.n) j 0 more, ← c.letter.ensures) (wrote_then put.ensures (rw add-one at h))),
+      λ e r h. c.loop-j.invariant.3 e r (rw (drop-cons (word a.n) j 0 more, ← c.letter_in.ensures) (wrote_then put.ensures (rw add-one at h))),
     )
 
 pub returns : goal.returns

@@ -1,40 +1,44 @@
--- `ax25_aprs::words::starts_with` meets its contract. The letters passed are the same.
+-- `ax25_aprs::words::starts_with` meets its contract: each arm compares with its own word.
 -- Assumes nothing.
 use native.Mathlib.Omega.{arith}
-use borrow.Author.Rules.{rules}
-use mathlib.Core.Path.{◌≡◌, sym, ◌∙◌}
-use Rattle.laws.proofs.Cases.{by_le}
-use Rattle.laws.proofs.TextLaws.{starts_yes, starts_not, starts_short}
-use Rattle.ax25_aprs.specs.Words.{word}
-use Rattle.ax25_aprs.proofs.WordLaws.{word_size}
+use mathlib.Core.Path.{◌≡◌}
+use Rattle.ax25_aprs.specs.Words.{words, word}
 use Rattle.ax25_aprs.proofs.words.starts_with.Goals as goal
 
-pub returns-then-s-size : goal.returns-then-s-size
-returns-then-s-size c = sym (starts_short (word c.args.n) c.args.s.now (omega (arith, c.size_of-size.ensures)))
+pub returns-in-1 : goal.returns-in-1
+unfolding words word
+returns-in-1 c = rw c.in-1.is c.starts.ensures
 
-pub loop-j-init : goal.loop-j-init
-loop-j-init c = (search rules, λ i h. absurd (omega arith))
+pub returns-in-2 : goal.returns-in-2
+unfolding words word
+returns-in-2 c = rw c.in-2.is c.starts-in-2.ensures
 
-pub letter-requires : goal.letter-requires
-letter-requires c = omega (arith, c.size_of-size.ensures, word_size c.args.n (omega arith) (omega arith))
+pub returns-in-3 : goal.returns-in-3
+unfolding words word
+returns-in-3 c = rw c.in-3.is c.starts-in-3.ensures
 
-pub returns-then-s-j : goal.returns-then-s-j
-returns-then-s-j c =
-    sym (starts_not (word c.args.n) c.args.s.now c.loop-j.j (omega (arith, c.size_of-size.ensures)) (λ e. c.if-s-j.true (sym e ∙ sym c.letter.ensures)))
+pub returns-in-4 : goal.returns-in-4
+unfolding words word
+returns-in-4 c = rw c.in-4.is c.starts-in-4.ensures
 
-pub loop-j-preserved : goal.loop-j-preserved
-loop-j-preserved c =
-    let j = c.loop-j.j in (
-      search rules,
-      λ i h.
-          by_le j i
-          (λ k.
-          let q : i ≡ j = omega arith in
-          rw q (sym (c.if-s-j.false ∙ c.letter.ensures)))
-          (λ k. c.loop-j.invariant.1 i k),
-    )
+pub returns-in-5 : goal.returns-in-5
+unfolding words word
+returns-in-5 c = rw c.in-5.is c.starts-in-5.ensures
 
-pub returns : goal.returns
-returns c =
-    let size = c.size_of-size.ensures in
-    sym (starts_yes (word c.args.n) c.args.s.now (omega (arith, size)) (λ i k. c.loop-j.invariant.1 i (omega (arith, size))))
+pub returns-in-6 : goal.returns-in-6
+unfolding words word
+returns-in-6 c = rw c.in-6.is c.starts-in-6.ensures
+
+pub returns-in-7 : goal.returns-in-7
+unfolding words word
+returns-in-7 c = rw c.in-7.is c.starts-in-7.ensures
+
+pub returns-in-8 : goal.returns-in-8
+unfolding words word
+returns-in-8 c = rw c.in-8.is c.starts-in-8.ensures
+
+pub returns-in_default : goal.returns-in_default
+unfolding words word
+returns-in_default c =
+    let last : c.args.n ≡ 9 = omega arith in
+    rw last c.starts-in_default.ensures
