@@ -3,7 +3,7 @@
 use mathlib.Core.Path.{◌≡◌, refl, sym, ap, ◌∙◌}
 use mathlib.Core.Bool.{Bool, true, false, ◌&&◌}
 use mathlib.Core.List.{List, [], ◌∷◌, ◌++◌, map}
-use mathlib.Core.Option.{none, some}
+use Rattle.std.proofs.Common.{None, Some}
 use Prim.Native.Nat.{ℕ, suc, ◌+◌, ◌-◌, ◌*◌, ◌≤◌, ◌<◌}
 use native.Mathlib.Omega.{arith}
 use lib.ListN.{length, get_or, take, drop}
@@ -34,50 +34,50 @@ pub use Rattle.ax25_token.proofs.PutLaws.{Gave, gave, bad, puts, puts_none}
 
 module _ (l : ℕ) where
   module _ (c : List ℕ) (cs : List (List ℕ)) where
-    pub tokens_more : (x y : List Bool) → token_bits l c ≡ some x → tokens_bits l cs ≡ some y → tokens_bits l (c ∷ cs) ≡ some (x ++ y)
+    pub tokens_more : (x y : List Bool) → token_bits l c ≡ Some x → tokens_bits l cs ≡ Some y → tokens_bits l (c ∷ cs) ≡ Some (x ++ y)
     unfolding tokens_bits
     tokens_more x y e f = rw (e, f)
 
-    pub tokens_first : token_bits l c ≡ none → tokens_bits l (c ∷ cs) ≡ none
+    pub tokens_first : token_bits l c ≡ None → tokens_bits l (c ∷ cs) ≡ None
     unfolding tokens_bits
     tokens_first e = rw e
 
-    pub tokens_rest : (x : List Bool) → token_bits l c ≡ some x → tokens_bits l cs ≡ none → tokens_bits l (c ∷ cs) ≡ none
+    pub tokens_rest : (x : List Bool) → token_bits l c ≡ Some x → tokens_bits l cs ≡ None → tokens_bits l (c ∷ cs) ≡ None
     unfolding tokens_bits
     tokens_rest x e f = rw (e, f)
 
   module _ (v : List ℕ) (vs : List (List ℕ)) where
-    pub digis_alias : 0 < alias_of (v ∷ vs) → digi_bits l true (v ∷ vs) ≡ some (true ∷ bits_of 3 (alias_of (v ∷ vs)))
+    pub digis_alias : 0 < alias_of (v ∷ vs) → digi_bits l true (v ∷ vs) ≡ Some (true ∷ bits_of 3 (alias_of (v ∷ vs)))
     unfolding digi_bits pick
     digis_alias h = rw (lt-ltb 0 (alias_of (v ∷ vs)) h)
 
-    pub digis_ap : (x : List Bool) → alias_of (v ∷ vs) ≡ 0 → tokens_bits l (v ∷ vs) ≡ some x → digi_bits l true (v ∷ vs) ≡ some (false ∷ x)
+    pub digis_ap : (x : List Bool) → alias_of (v ∷ vs) ≡ 0 → tokens_bits l (v ∷ vs) ≡ Some x → digi_bits l true (v ∷ vs) ≡ Some (false ∷ x)
     unfolding digi_bits pick
     digis_ap x h e = rw (h, e)
 
-    pub digis_plain : (x : List Bool) → tokens_bits l (v ∷ vs) ≡ some x → digi_bits l false (v ∷ vs) ≡ some x
+    pub digis_plain : (x : List Bool) → tokens_bits l (v ∷ vs) ≡ Some x → digi_bits l false (v ∷ vs) ≡ Some x
     unfolding digi_bits pick
     digis_plain x e = rw e
 
-    pub digis_bad : (ap : Bool) → (ap && ltb 0 (alias_of (v ∷ vs))) ≡ false → tokens_bits l (v ∷ vs) ≡ none → digi_bits l ap (v ∷ vs) ≡ none
+    pub digis_bad : (ap : Bool) → (ap && ltb 0 (alias_of (v ∷ vs))) ≡ false → tokens_bits l (v ∷ vs) ≡ None → digi_bits l ap (v ∷ vs) ≡ None
     unfolding digi_bits pick
     digis_bad ap h e = rw (h, e)
 
   module _ (r : Parsed) (typ : ℕ) where
-    pub head_some : (d s v : List Bool) → token_bits l r.dest ≡ some d → token_bits l r.src ≡ some s → digi_bits l (is_ap r) r.digis ≡ some v
-        → head_bits l r typ ≡ some (r.heard ++ (d ++ (s ++ (v ++ bits_of (type_width (is_ap r)) typ))))
+    pub head_some : (d s v : List Bool) → token_bits l r.dest ≡ Some d → token_bits l r.src ≡ Some s → digi_bits l (is_ap r) r.digis ≡ Some v
+        → head_bits l r typ ≡ Some (r.heard ++ (d ++ (s ++ (v ++ bits_of (type_width (is_ap r)) typ))))
     unfolding head_bits
     head_some d s v e f g = rw (e, f, g)
 
-    pub head_dest : token_bits l r.dest ≡ none → head_bits l r typ ≡ none
+    pub head_dest : token_bits l r.dest ≡ None → head_bits l r typ ≡ None
     unfolding head_bits
     head_dest e = rw e
 
-    pub head_src : (d : List Bool) → token_bits l r.dest ≡ some d → token_bits l r.src ≡ none → head_bits l r typ ≡ none
+    pub head_src : (d : List Bool) → token_bits l r.dest ≡ Some d → token_bits l r.src ≡ None → head_bits l r typ ≡ None
     unfolding head_bits
     head_src d e f = rw (e, f)
 
-    pub head_digis : (d s : List Bool) → token_bits l r.dest ≡ some d → token_bits l r.src ≡ some s → digi_bits l (is_ap r) r.digis ≡ none → head_bits l r typ ≡ none
+    pub head_digis : (d s : List Bool) → token_bits l r.dest ≡ Some d → token_bits l r.src ≡ Some s → digi_bits l (is_ap r) r.digis ≡ None → head_bits l r typ ≡ None
     unfolding head_bits
     head_digis d s e f g = rw (e, f, g)
 
@@ -139,11 +139,11 @@ module _ (l n : ℕ) (d : List ℕ) (b : List Bool) (at : ℕ) where
         → Puts b at (tokens_bits l (map (addr_call l) (fields_of l n d))) e r
     tokens_next t p q f r g =
         let x = gave b at c (token_bits l (map (cased_of false) (addr_call l d))) t p q f in
-        let first : token_bits l (addr_call l d) ≡ some x.bits = ap (token_bits l) (sym (map_plain (addr_call l d))) ∙ x.is in
+        let first : token_bits l (addr_call l d) ≡ Some x.bits = ap (token_bits l) (sym (map_plain (addr_call l d))) ∙ x.is in
         let cs = map (addr_call l) (fields_of l (n - 1) (drop (l + 1) d)) in
         rw (calls_some l n d h) (by (addr_call l d) cs x.bits first x.wrote r (rw (from_place d (l + 1)) at g))
       where
-        by : (v : List ℕ) (vs : List (List ℕ)) (x : List Bool) → token_bits l v ≡ some x → Wrote b at x c p → (r : Put) → Puts c p (tokens_bits l vs) e r
+        by : (v : List ℕ) (vs : List (List ℕ)) (x : List Bool) → token_bits l v ≡ Some x → Wrote b at x c p → (r : Put) → Puts c p (tokens_bits l vs) e r
             → Puts b at (tokens_bits l (v ∷ vs)) e r
         by v vs x k w (Next q) m =
             let y = gave c p e (tokens_bits l vs) (Next q) q refl m in
@@ -190,8 +190,8 @@ module _ (l : ℕ) (vs : List (List ℕ)) (h : length vs ≡ 0 → ⊥) (ap : Bo
 
     pub digis_marked : a ≤ 0 → (r : Put) → Puts c p (tokens_bits l vs) e r → Puts b at (digi_bits l ap vs) e r
     digis_marked k r f =
-        let none : alias_of vs ≡ 0 = omega (arith, k, alias) in
-        rw q (by vs h none (rw (le-ltb 0 a k) at w) r f)
+        let None : alias_of vs ≡ 0 = omega (arith, k, alias) in
+        rw q (by vs h None (rw (le-ltb 0 a k) at w) r f)
       where
         by : (vs : List (List ℕ)) → (length vs ≡ 0 → ⊥) → alias_of vs ≡ 0 → Wrote b at (false ∷ []) c p → (r : Put) → Puts c p (tokens_bits l vs) e r → Puts b at (digi_bits l true vs) e r
         by [] m z u r g = absurd (m refl)

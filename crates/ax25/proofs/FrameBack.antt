@@ -3,7 +3,7 @@
 use mathlib.Core.Path.{◌≡◌, refl, sym, ap, ap₂, ◌∙◌}
 use mathlib.Core.Bool.{Bool, true, false, and-true}
 use mathlib.Core.List.{List, ◌∷◌, ◌++◌, append_assoc}
-use mathlib.Core.Option.{some}
+use Rattle.std.proofs.Common.{Some}
 use Prim.Native.Nat.{ℕ, zero, suc, ◌+◌, ◌-◌, ◌*◌, ◌/◌, ◌%◌, ◌^◌, ◌≤◌, ◌<◌}
 use native.Mathlib.Nat.{zero-add}
 use native.Mathlib.Omega.{arith}
@@ -78,7 +78,7 @@ pub record FrameBack (mended : Bool) (d : List ℕ) : Type 0 where
   pub typ : ℕ
   pub coded : encode_of Ax25 d ≡ answer (record { bytes = header ∷ rest; typ = typ })
   pub ax25 : header / 16 % 4 ≡ Ax25
-  pub back : read_frame mended 6 header (unpack rest) ≡ some d
+  pub back : read_frame mended 6 header (unpack rest) ≡ Some d
 
 -- zeros up to a whole byte
 zeros : (b : List Bool) → (z : ℕ) × (z < 8) × (unpack (pack b) ≡ b ++ replicate z false)
@@ -100,7 +100,7 @@ module _ {mended : Bool} {d : List ℕ} (f : Plain mended d) where
     rest : List Bool
     bits_coded : frame_bits 6 (plain_parsed f) typ out ≡ answer all
     unpacked : unpack (pack all) ≡ out ++ rest
-    read : read_info mended 6 typ (out ++ rest) rest ≡ some f.info
+    read : read_info mended 6 typ (out ++ rest) rest ≡ Some f.info
 
   header_is : Header (length f.digis) head
   unfolding header_of pick
@@ -119,11 +119,11 @@ module _ {mended : Bool} {d : List ℕ} (f : Plain mended d) where
     unfolding encode_of code_parsed type_of pick
     frame_coded = rw (plain_parsed_lem f, and-true ap?, b.is, y.bits_coded)
 
-    frame_read : read_frame mended 6 head (unpack (pack y.all)) ≡ some d
+    frame_read : read_frame mended 6 head (unpack (pack y.all)) ≡ Some d
     unfolding read_frame pick
     frame_read =
         rw (header_is.count, y.unpacked, b.back y.rest, y.read, header_is.ui)
-        (ap (λ (a : List ℕ). some (a ++ (0x03 ∷ 0xF0 ∷ f.info))) addresses_is ∙ ap some (sym f.is))
+        (ap (λ (a : List ℕ). Some (a ++ (0x03 ∷ 0xF0 ∷ f.info))) addresses_is ∙ ap Some (sym f.is))
 
     with_parts : FrameBack mended d
     with_parts =
@@ -165,7 +165,7 @@ module _ {mended : Bool} {d : List ℕ} (f : Plain mended d) where
         rest = unpack f.info ++ replicate z.0 false;
         bits_coded = rw e;
         unpacked = z.2 ∙ append_assoc out (unpack f.info) (replicate z.0 false);
-        read = rw (e, whole) (ap some (pack_n_front f.info (replicate z.0 false) f.octets));
+        read = rw (e, whole) (ap Some (pack_n_front f.info (replicate z.0 false) f.octets));
       }
 
   own_body : PlainBody mended typ f.info → (out : List Bool) → Body out

@@ -3,7 +3,7 @@
 use mathlib.Core.Path.{◌≡◌, refl, sym, ap}
 use mathlib.Core.Bool.{Bool, true, false}
 use mathlib.Core.List.{List, [], ◌∷◌, ◌++◌, append_assoc}
-use mathlib.Core.Option.{Option, some}
+use Rattle.std.proofs.Common.{Option, Some}
 use Prim.Native.Nat.{ℕ, suc, ◌+◌, ◌%◌, ◌^◌, ◌<◌}
 use native.Mathlib.Nat.{mod-eq_of_lt, not-suc-le-zero}
 use native.Mathlib.Omega.{arith}
@@ -32,7 +32,7 @@ record Aliased (k : ℕ) (names digis : List (List ℕ)) : Type 0 where
   name : List ℕ
   number : alias_from k names digis ≡ k + i
   small : i < length names
-  is_named : name_at (suc i) names ≡ some name
+  is_named : name_at (suc i) names ≡ Some name
   calls : alias_calls name 1 (length digis) ≡ digis
 
 module _ (k : ℕ) (a : List ℕ) (names digis : List (List ℕ)) where
@@ -71,8 +71,8 @@ aliased k (a ∷ names) digis h =
 -- some bits for these calls, read back by `read` whatever follows
 record Written (written : Option (List Bool)) (read : List Bool → Option (List (List ℕ) × List Bool)) (calls : List (List ℕ)) : Type 0 where
   out : List Bool
-  is : written ≡ some out
-  back : (rest : List Bool) → read (out ++ rest) ≡ some (calls, rest)
+  is : written ≡ Some out
+  back : (rest : List Bool) → read (out ++ rest) ≡ Some (calls, rest)
 
 tokens_back : (mended : Bool) (v : List Address) → AllClean mended v → Written (tokens_bits 6 (texts v)) (read_tokens mended 6 (length v)) (texts v)
 unfolding tokens_bits read_tokens texts
@@ -87,7 +87,7 @@ tokens_back mended (a ∷ v) ok =
     }
 
 alias_back : (mended : Bool) (c : List ℕ) (cs : List (List ℕ)) → 0 < alias_of (c ∷ cs)
-    → Written (some (true ∷ bits_of 3 (alias_of (c ∷ cs)))) (read_aliased mended 6 (length (c ∷ cs))) (c ∷ cs)
+    → Written (Some (true ∷ bits_of 3 (alias_of (c ∷ cs)))) (read_aliased mended 6 (length (c ∷ cs))) (c ∷ cs)
 unfolding alias_of read_aliased read_alias aliases pick
 alias_back mended c cs h =
     let r = aliased 1 aliases (c ∷ cs) h in
@@ -142,8 +142,8 @@ module _ (mended : Bool) (dest src : Address) (digis : List Address) (typ : ℕ)
   -- the bits of a head, read back whatever follows
   pub record HeadBack (r : Parsed) : Type 0 where
     pub out : List Bool
-    pub is : head_bits 6 r typ ≡ some out
-    pub back : (rest : List Bool) → read_head mended 6 (length digis) (out ++ rest) ≡ some (head_of, rest)
+    pub is : head_bits 6 r typ ≡ Some out
+    pub back : (rest : List Bool) → read_head mended 6 (length digis) (out ++ rest) ≡ Some (head_of, rest)
 
   pub head_back : (r : Parsed) → AllClean mended (dest ∷ src ∷ digis) → Fits (starts (ascii "AP") to) typ
       → r.dest ≡ to → r.src ≡ from → r.digis ≡ texts digis → r.heard ≡ heards digis → HeadBack r

@@ -3,7 +3,8 @@
 use mathlib.Core.Path.{◌≡◌, sym, ap, ◌∙◌}
 use mathlib.Core.Bool.{Bool, true}
 use mathlib.Core.List.{List, map}
-use mathlib.Core.Option.{some, some-injective}
+use Rattle.std.proofs.Common.{Some}
+use Rattle.std.proofs.lemmas.Option.{same_Some}
 use Prim.Native.Nat.{ℕ, ◌+◌, ◌-◌, ◌*◌, ◌≤◌}
 use native.Mathlib.Nat.{mul-le-mul_right}
 use native.Mathlib.Omega.{arith}
@@ -59,8 +60,8 @@ parts_of command l d s k =
     }
 
 -- whatever a frame is parsed to, they are its parts
-pub parts_are : (command l : ℕ) (d : List ℕ) (s : Seen) (k : Known command l d s) (p : Parsed) → parse_of l d ≡ some p → Parts command l d s p
-parts_are command l d s k p e = rw (some-injective k.parts p (sym k.parsed ∙ e)) at (parts_of command l d s k)
+pub parts_are : (command l : ℕ) (d : List ℕ) (s : Seen) (k : Known command l d s) (p : Parsed) → parse_of l d ≡ Some p → Parts command l d s p
+parts_are command l d s k p e = rw (same_Some k.parts p (sym k.parsed ∙ e)) at (parts_of command l d s k)
 
 -- ---- how far the digipeaters reach
 
@@ -94,14 +95,14 @@ module _ (command l : ℕ) (d : List ℕ) (s : Seen) (p : Parsed) (o : Parts com
     bad_dest q f b n g = puts_none b n g (head_dest l p (type_of command p) (ap (token_bits l) (sym o.dest_is) ∙ bad c at e (token_bits l first) t q f))
 
     module _ (v : ℕ) (q : t ≡ Next v) (f : Puts c at (token_bits l first) e t) (h : List Bool) (u : Put) (z : Puts e v (token_bits l second) h u) where
-      dest : token_bits l p.dest ≡ some (gave c at e (token_bits l first) t v q f).bits
+      dest : token_bits l p.dest ≡ Some (gave c at e (token_bits l first) t v q f).bits
       dest = ap (token_bits l) (sym o.dest_is) ∙ (gave c at e (token_bits l first) t v q f).is
 
       pub bad_src : u ≡ Bad → (b : List Bool) (n : ℕ) (g : List Bool) → Puts b n (head_bits l p (type_of command p)) g Bad
       bad_src k b n g = puts_none b n g (head_src l p (type_of command p) _ dest (ap (token_bits l) (sym o.src_is) ∙ bad e v h (token_bits l second) u k z))
 
       module _ (w : ℕ) (k : u ≡ Next w) (i : List Bool) (r : Put) (y : Puts h w (digi_bits l s.ap rest) i r) where
-        src : token_bits l p.src ≡ some (gave e v h (token_bits l second) u w k z).bits
+        src : token_bits l p.src ≡ Some (gave e v h (token_bits l second) u w k z).bits
         src = ap (token_bits l) (sym o.src_is) ∙ (gave e v h (token_bits l second) u w k z).is
 
         same_digis : digi_bits l (is_ap p) p.digis ≡ digi_bits l s.ap rest

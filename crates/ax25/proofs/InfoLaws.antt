@@ -4,7 +4,8 @@ use mathlib.Core.Path.{◌≡◌, refl, sym, ap, ap₂, ◌∙◌}
 use mathlib.Core.Logic.{inl, inr}
 use mathlib.Core.Bool.{Bool, true, false, ◌&&◌}
 use mathlib.Core.List.{List, [], ◌∷◌}
-use mathlib.Core.Option.{some, some-injective}
+use Rattle.std.proofs.Common.{Some}
+use Rattle.std.proofs.lemmas.Option.{same_Some}
 use Prim.Native.Nat.{ℕ, suc, ◌+◌, ◌*◌, ◌≤◌}
 use native.Mathlib.Omega.{arith}
 use types.Run.{OneOf}
@@ -97,9 +98,9 @@ module _ (command l : ℕ) (d : List ℕ) (s : Seen) (k : Known command l d s) w
       (λ t. let f : start ≡ end + 2 = e ∙ rw t in omega (arith, f, k.total))
       (λ t. let f : start ≡ end = e ∙ rw t in omega (arith, f, k.total))
 
-  module _ (p : Parsed) (e : parse_of l d ≡ some p) where
+  module _ (p : Parsed) (e : parse_of l d ≡ Some p) where
     same_parts : k.parts ≡ p
-    same_parts = some-injective k.parts p (sym k.parsed ∙ e)
+    same_parts = same_Some k.parts p (sym k.parsed ∙ e)
 
     info_is : p.info ≡ drop (end + 2) d
     info_is = sym (ap (λ (r : Parsed). r.info) same_parts) ∙ k.places.info_is

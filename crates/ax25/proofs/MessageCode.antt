@@ -3,7 +3,8 @@
 use mathlib.Core.Path.{◌≡◌, refl, sym, ap, subst, ◌∙◌}
 use mathlib.Core.Bool.{Bool, true, false, ◌&&◌}
 use mathlib.Core.List.{List, [], ◌∷◌, ◌++◌}
-use mathlib.Core.Option.{none, some, some-injective}
+use Rattle.std.proofs.Common.{None, Some}
+use Rattle.std.proofs.lemmas.Option.{same_Some}
 use Prim.Native.Nat.{ℕ, ◌+◌, ◌-◌, ◌*◌, ◌/◌, ◌%◌, ◌≤◌, ◌<◌}
 use native.Mathlib.Nat.{mul-le-mul_right, zero-add}
 use native.Mathlib.Omega.{arith}
@@ -43,7 +44,7 @@ unfolding pick bits_of odd last_or
 last_type true d typ e = rw e
 last_type false d typ e = rw e
 
-head_last : (l : ℕ) (r : Parsed) (typ : ℕ) (head : List Bool) → typ ≡ Text → head_bits l r typ ≡ some head → last_or false head ≡ false
+head_last : (l : ℕ) (r : Parsed) (typ : ℕ) (head : List Bool) → typ ≡ Text → head_bits l r typ ≡ Some head → last_or false head ≡ false
 unfolding head_bits
 head_last l r typ head text e =
     from_some (token_bits l r.dest) _ head e
@@ -51,7 +52,7 @@ head_last l r typ head text e =
     (λ y ey g. from_some (digi_bits l (is_ap r) r.digis) _ head g
     (λ z ez h.
     let t = bits_of (type_width (is_ap r)) typ in
-    rw (← some-injective (r.heard ++ (x ++ (y ++ (z ++ t)))) head h)
+    rw (← same_Some (r.heard ++ (x ++ (y ++ (z ++ t)))) head h)
     (last_append false r.heard (x ++ (y ++ (z ++ t)))
     ∙ last_append _ x (y ++ (z ++ t))
     ∙ last_append _ y (z ++ t)
@@ -68,16 +69,16 @@ module _ (command l : ℕ) (d : List ℕ) (s : Seen) (letters : l ≡ call_len c
   typ = type_of command p
 
   by_letters : (o : Outcome Coded) → or_four (head_bits l p typ) (λ head. packed (header_of command p) typ (frame_bits l p typ head)) ≡ o
-      → parse_of l d ≡ some p → encode_of command d ≡ o
+      → parse_of l d ≡ Some p → encode_of command d ≡ o
   unfolding encode_of code_parsed
   by_letters o e f =
       subst (λ (m : ℕ). or_three (parse_of m d) (λ r. or_four (head_bits m r (type_of command r)) (λ head. packed (header_of command r) (type_of command r) (frame_bits m r (type_of command r) head))) ≡ o)
       letters (rw f e)
 
-  code_bad : head_bits l p typ ≡ none → encode_of command d ≡ refused 4
+  code_bad : head_bits l p typ ≡ None → encode_of command d ≡ refused 4
   code_bad e = by_letters (refused 4) (rw e) k.parsed
 
-  module _ (head : List Bool) (e : head_bits l p typ ≡ some head) where
+  module _ (head : List Bool) (e : head_bits l p typ ≡ Some head) where
     code_refused : (n : ℕ) → info_bits l p typ head ≡ refused n → encode_of command d ≡ refused n
     code_refused n f = by_letters (refused n) (rw e (unfold frame_bits in rw f)) k.parsed
 
@@ -94,7 +95,7 @@ module _ (command l : ℕ) (d : List ℕ) (s : Seen) (letters : l ≡ call_len c
 
   -- ---- the answers
 
-  module _ (t u : List ℕ) (r : Put) (f : (q : Parsed) → parse_of l d ≡ some q → Puts (unpack t) 8 (head_bits l q (type_of command q)) (unpack u) r) where
+  module _ (t u : List ℕ) (r : Put) (f : (q : Parsed) → parse_of l d ≡ Some q → Puts (unpack t) 8 (head_bits l q (type_of command q)) (unpack u) r) where
     pub bad_codes : r ≡ Bad → (v w : List ℕ) → Codes (encode_of command d) v w (part.Refused 4)
     bad_codes e v w = rw (code_bad (bad (unpack t) 8 (unpack u) (head_bits l p typ) r e (f p k.parsed))) refl
 
@@ -112,7 +113,7 @@ module _ (command l : ℕ) (d : List ℕ) (s : Seen) (letters : l ≡ call_len c
           omega (arith, first.wrote.next_is, m, few, size.few)
 
       module _ (w : List ℕ) (a : Part)
-          (g : (q : Parsed) (head : List Bool) → parse_of l d ≡ some q → at ≡ 8 + length head → (type_of command q ≡ Text → last_or false head ≡ false)
+          (g : (q : Parsed) (head : List Bool) → parse_of l d ≡ Some q → at ≡ 8 + length head → (type_of command q ≡ Text → last_or false head ≡ false)
           → Does (info_bits l q (type_of command q) head) (unpack u) at (unpack w) a) where
         body : Does (info_bits l p typ first.bits) (unpack u) at (unpack w) a
         body = g p first.bits k.parsed first.wrote.next_is (λ z. head_last l p typ first.bits z first.is)

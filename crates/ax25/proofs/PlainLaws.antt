@@ -3,7 +3,7 @@
 use mathlib.Core.Path.{◌≡◌, refl, sym, ap, ap₂, ◌∙◌}
 use mathlib.Core.Bool.{Bool, true, false}
 use mathlib.Core.List.{List, [], ◌∷◌, ◌++◌, map, append_assoc}
-use mathlib.Core.Option.{some}
+use Rattle.std.proofs.Common.{Some}
 use Prim.Native.Nat.{ℕ, zero, suc, ◌+◌, ◌-◌, ◌*◌, ◌/◌, ◌%◌, ◌^◌, ◌≤◌, ◌<◌}
 use native.Mathlib.Nat.{not-suc-le-zero, le_of_suc-le-suc}
 use native.Mathlib.Omega.{arith}
@@ -153,7 +153,7 @@ empty_texts (a ∷ v) = refl
 
 -- the further fields, behind an SSID byte b
 digis_parsed : (mended : Bool) (v : List Address) (k b : ℕ) (rest : List ℕ) → AllClean mended v → length v ≤ k → odd b ≡ is_empty v
-    → digi_fields 6 k b (address_field v ++ rest) ≡ some (fields v, rest)
+    → digi_fields 6 k b (address_field v ++ rest) ≡ Some (fields v, rest)
 unfolding digi_fields address_field fields pick
 digis_parsed mended [] zero b rest ok l e = refl
 digis_parsed mended [] (suc k) b rest ok l e = rw e
@@ -190,7 +190,7 @@ plain_parsed f =
       info = f.info;
     }
 
-pub plain_parsed_lem : {mended : Bool} {d : List ℕ} (f : Plain mended d) → parse_of 6 d ≡ some (plain_parsed f)
+pub plain_parsed_lem : {mended : Bool} {d : List ℕ} (f : Plain mended d) → parse_of 6 d ≡ Some (plain_parsed f)
 unfolding parse_of address_field
 plain_parsed_lem {mended} {d} f =
     let a = address_bytes f.dest false in

@@ -3,7 +3,8 @@
 use mathlib.Core.Path.{◌≡◌, refl, sym}
 use mathlib.Core.Bool.{Bool, true, false, ◌&&◌}
 use mathlib.Core.List.{List, [], ◌∷◌, ◌++◌}
-use mathlib.Core.Option.{Option, none, some, some-injective}
+use Rattle.std.proofs.Common.{Option, None, Some}
+use Rattle.std.proofs.lemmas.Option.{same_Some}
 use Prim.Native.Nat.{ℕ, zero, suc, ◌+◌, ◌-◌, ◌*◌, ◌≤◌, ◌<◌}
 use native.Mathlib.Nat.{suc-mul}
 use native.Mathlib.Omega.{arith}
@@ -32,30 +33,30 @@ module _ (l : ℕ) (two : 2 ≤ l) (high : l ≤ 9) where
   abbrev each : ℕ
   each = 6 * l + 4
 
-  tokens_size : (cs : List (List ℕ)) → AllBase l cs → (b : List Bool) → tokens_bits l cs ≡ some b → length b ≤ length cs * each
+  tokens_size : (cs : List (List ℕ)) → AllBase l cs → (b : List Bool) → tokens_bits l cs ≡ Some b → length b ≤ length cs * each
   unfolding tokens_bits
-  tokens_size [] h b e = rw (← some-injective [] b e) (omega arith)
+  tokens_size [] h b e = rw (← same_Some [] b e) (omega arith)
   tokens_size (c ∷ cs) h b e =
       from_some (token_bits l c) _ b e
       (λ x ex f. from_some (tokens_bits l cs) _ b f
       (λ y ey g.
       let t = token_size l l two (omega arith) c h.0 x ex in
       let s = tokens_size cs h.1 y ey in
-      rw (← some-injective (x ++ y) b g) (omega (arith, length-append x y, suc-mul (length cs) each))))
+      rw (← same_Some (x ++ y) b g) (omega (arith, length-append x y, suc-mul (length cs) each))))
 
-  marked_size : (ap : Bool) (b x : List Bool) → some (pick ap (false ∷ x) x) ≡ some b → length b ≤ length x + 1
+  marked_size : (ap : Bool) (b x : List Bool) → Some (pick ap (false ∷ x) x) ≡ Some b → length b ≤ length x + 1
   unfolding pick
-  marked_size true b x e = rw (← some-injective (false ∷ x) b e) (omega arith)
-  marked_size false b x e = rw (← some-injective x b e) (omega arith)
+  marked_size true b x e = rw (← same_Some (false ∷ x) b e) (omega arith)
+  marked_size false b x e = rw (← same_Some x b e) (omega arith)
 
-  pub digis_size : (ap : Bool) (cs : List (List ℕ)) → AllBase l cs → (b : List Bool) → digi_bits l ap cs ≡ some b → length b ≤ length cs * each + 1
+  pub digis_size : (ap : Bool) (cs : List (List ℕ)) → AllBase l cs → (b : List Bool) → digi_bits l ap cs ≡ Some b → length b ≤ length cs * each + 1
   unfolding digi_bits pick
-  digis_size ap [] h b e = rw (← some-injective [] b e) (omega arith)
+  digis_size ap [] h b e = rw (← same_Some [] b e) (omega arith)
   digis_size ap (c ∷ cs) h b e =
       by_test (ap && ltb 0 (alias_of (c ∷ cs)))
       (λ t.
       let k = bits_of 3 (alias_of (c ∷ cs)) in
-      rw (← some-injective (true ∷ k) b (rw t at e)) (omega (arith, length_bits 3 (alias_of (c ∷ cs)), suc-mul (length cs) each)))
+      rw (← same_Some (true ∷ k) b (rw t at e)) (omega (arith, length_bits 3 (alias_of (c ∷ cs)), suc-mul (length cs) each)))
       (λ t. from_some (tokens_bits l (c ∷ cs)) _ b (rw t at e) (λ x ex f. omega (arith, tokens_size (c ∷ cs) h x ex, marked_size ap b x f)))
 
   width_le : (ap : Bool) → type_width ap ≤ 3
@@ -64,7 +65,7 @@ module _ (l : ℕ) (two : 2 ≤ l) (high : l ≤ 9) where
   width_le false = omega arith
 
   -- one H bit and one token for each digipeater, two more tokens, the alias bit and the type
-  pub head_size : (r : Parsed) (size : ℕ) → Sized l r size → (typ : ℕ) (b : List Bool) → head_bits l r typ ≡ some b
+  pub head_size : (r : Parsed) (size : ℕ) → Sized l r size → (typ : ℕ) (b : List Bool) → head_bits l r typ ≡ Some b
       → length b ≤ length r.digis + length r.digis * each + 2 * each + 4
   unfolding head_bits
   head_size r size s typ b e =
@@ -73,7 +74,7 @@ module _ (l : ℕ) (two : 2 ≤ l) (high : l ≤ 9) where
       (λ y ey g. from_some (digi_bits l (is_ap r) r.digis) _ b g
       (λ z ez h.
       let t = bits_of (type_width (is_ap r)) typ in
-      rw (← some-injective (r.heard ++ (x ++ (y ++ (z ++ t)))) b h)
+      rw (← same_Some (r.heard ++ (x ++ (y ++ (z ++ t)))) b h)
       (omega (arith, length-append r.heard (x ++ (y ++ (z ++ t))), length-append x (y ++ (z ++ t)), length-append y (z ++ t), length-append z t, s.one_each, token_size l l two (omega arith) r.dest s.dest_base x ex, token_size l l two (omega arith) r.src s.src_base y ey, digis_size (is_ap r) r.digis s.digis_base z ez, length_bits (type_width (is_ap r)) typ, width_le (is_ap r))))))
 
   -- ---- the body
@@ -130,13 +131,13 @@ packed_bounds header typ (answer b) c h m e =
     let q : header ∷ pack b ≡ c.bytes = cc in
     rw (← q) (record { not_empty = omega arith; fits = omega (arith, length_pack b, m b refl); first_low = h })
 
-pub four_from : {P : Type 0} (o : Option (List Bool)) (f : List Bool → Outcome Coded) (c : Coded) → or_four o f ≡ answer c → ((b : List Bool) → o ≡ some b → f b ≡ answer c → P) → P
-four_from none f c e k = absurd (answer_not (sym e))
-four_from (some b) f c e k = k b refl e
+pub four_from : {P : Type 0} (o : Option (List Bool)) (f : List Bool → Outcome Coded) (c : Coded) → or_four o f ≡ answer c → ((b : List Bool) → o ≡ Some b → f b ≡ answer c → P) → P
+four_from None f c e k = absurd (answer_not (sym e))
+four_from (Some b) f c e k = k b refl e
 
-pub three_from : {P : Type 0} (o : Option Parsed) (f : Parsed → Outcome Coded) (c : Coded) → or_three o f ≡ answer c → ((r : Parsed) → o ≡ some r → f r ≡ answer c → P) → P
-three_from none f c e k = absurd (answer_not (sym e))
-three_from (some r) f c e k = k r refl e
+pub three_from : {P : Type 0} (o : Option Parsed) (f : Parsed → Outcome Coded) (c : Coded) → or_three o f ≡ answer c → ((r : Parsed) → o ≡ Some r → f r ≡ answer c → P) → P
+three_from None f c e k = absurd (answer_not (sym e))
+three_from (Some r) f c e k = k r refl e
 
 -- the bits of a frame of n digipeaters and i bytes of information fit 4,999 bytes
 abbrev Room : ℕ → Type 0

@@ -1,7 +1,7 @@
 -- `ax25::decode`: a message as a frame.
 -- Assumes nothing.
 use Rattle.std.specs.Prelude.{Bool, true, false, ◌||◌, List, [], ◌∷◌, ◌++◌, ℕ, zero, suc, ◌+◌, ◌-◌, ◌/◌, ◌%◌, length, get_or, drop, set, leb, eqb}
-use Rattle.std.proofs.Math.Option.{Option, none, some}
+use Rattle.std.specs.Prelude.{Option, None, Some}
 use Rattle.std.specs.Int.Bits.{bit_or}
 use Rattle.laws.specs.Bits.{odd, pack_n}
 use Rattle.laws.specs.Pick.{pick, ◌>>=◌}
@@ -22,9 +22,9 @@ digi_count header = pick (odd (header / 8)) (suc (header % 8)) 0
 
 -- the name of an alias, counted from 1
 unfoldable pub name_at : ℕ → List (List ℕ) → Option (List ℕ)
-name_at k [] = none
-name_at zero (a ∷ names) = none
-name_at (suc zero) (a ∷ names) = some a
+name_at k [] = None
+name_at zero (a ∷ names) = None
+name_at (suc zero) (a ∷ names) = Some a
 name_at (suc (suc k)) (a ∷ names) = name_at (suc k) names
 
 -- a type that there is
@@ -56,7 +56,7 @@ unfoldable pub read_alias : ℕ → List Bool → Option (List (List ℕ) × Lis
 read_alias n b = do
   (k, r) ← take_bits 3 b
   a ← name_at k aliases
-  some (alias_calls a 1 n, r)
+  Some (alias_calls a 1 n, r)
 
 module _ (l : ℕ) where
   -- the address fields of calls with their H bits; the last has its low bit set
@@ -67,19 +67,19 @@ module _ (l : ℕ) where
 -- by the reading of tokens, original or mended
 module _ (mended : Bool) (l : ℕ) where
   unfoldable pub read_tokens : ℕ → List Bool → Option (List (List ℕ) × List Bool)
-  read_tokens zero b = some ([], b)
+  read_tokens zero b = Some ([], b)
   read_tokens (suc n) b = do
     (c, r) ← read_token mended l b
     (cs, e) ← read_tokens n r
-    some (c ∷ cs, e)
+    Some (c ∷ cs, e)
 
   -- the alias bit, then the alias or the tokens
   unfoldable pub read_aliased : ℕ → List Bool → Option (List (List ℕ) × List Bool)
-  read_aliased n [] = none
+  read_aliased n [] = None
   read_aliased n (x ∷ b) = pick x (read_alias n b) (read_tokens n b)
 
   unfoldable pub read_digis : Bool → ℕ → List Bool → Option (List (List ℕ) × List Bool)
-  read_digis ap zero b = some ([], b)
+  read_digis ap zero b = Some ([], b)
   read_digis ap (suc n) b = pick ap (read_aliased (suc n) b) (read_tokens (suc n) b)
 
   -- H bits, destination, source, digipeaters, type
@@ -90,13 +90,13 @@ module _ (mended : Bool) (l : ℕ) where
     (s, r₃) ← read_token mended l r₂
     (v, r₄) ← read_digis (starts (ascii "AP") d) n r₃
     (t, r₅) ← take_bits (type_width (starts (ascii "AP") d)) r₄
-    pick (known t) (some (record { dest = d; src = s; digis = v; heard = h; typ = t }, r₅)) none
+    pick (known t) (Some (record { dest = d; src = s; digis = v; heard = h; typ = t }, r₅)) None
 
   -- the body, from what is left of all the bits behind the header
   unfoldable pub read_info : ℕ → List Bool → List Bool → Option (List ℕ)
   read_info typ all b =
       pick (eqb typ Text) (text7_of all (length all - length b))
-      (pick (eqb typ Binary) (some (bytes_in b))
+      (pick (eqb typ Binary) (Some (bytes_in b))
       (pick (eqb typ ThirdParty) (read_third mended l b)
       (read_body mended typ l b)))
 
@@ -104,4 +104,4 @@ module _ (mended : Bool) (l : ℕ) where
   read_frame header b = do
     (r, e) ← read_head (digi_count header) b
     i ← read_info r.typ b e
-    some (addresses l (r.dest ∷ r.src ∷ r.digis) (false ∷ false ∷ r.heard) ++ (pick (odd (header / 64)) (0x03 ∷ 0xF0 ∷ []) [] ++ i))
+    Some (addresses l (r.dest ∷ r.src ∷ r.digis) (false ∷ false ∷ r.heard) ++ (pick (odd (header / 64)) (0x03 ∷ 0xF0 ∷ []) [] ++ i))

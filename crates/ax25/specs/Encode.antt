@@ -1,7 +1,7 @@
 -- `ax25::encode`: a frame as a message.
 -- Assumes nothing.
 use Rattle.std.specs.Prelude.{Bool, true, false, ◌&&◌, List, [], ◌∷◌, ◌++◌, ℕ, zero, suc, ◌+◌, length, drop, ltb, eqb}
-use Rattle.std.proofs.Math.Option.{Option, none, some}
+use Rattle.std.specs.Prelude.{Option, None, Some}
 use Rattle.laws.specs.Bits.{bits_of, pack, unpack}
 use Rattle.laws.specs.Pick.{pick, ◌>>=◌}
 use Rattle.bits_write.specs.Text7.{last_or, text7_bits}
@@ -32,21 +32,21 @@ body_bytes r = pick (is_ui r) r.info (r.control ∷ r.pid ∷ r.info)
 
 module _ (l : ℕ) where
   unfoldable pub tokens_bits : List (List ℕ) → Option (List Bool)
-  tokens_bits [] = some []
+  tokens_bits [] = Some []
   tokens_bits (c ∷ cs) = do
     b ← token_bits l c
     bs ← tokens_bits cs
-    some (b ++ bs)
+    Some (b ++ bs)
 
   -- the digipeaters: the alias bit where the destination starts with AP, then the alias or the tokens
   unfoldable pub digi_bits : Bool → List (List ℕ) → Option (List Bool)
-  digi_bits ap [] = some []
+  digi_bits ap [] = Some []
   digi_bits ap (v ∷ vs) =
       pick (ap && ltb 0 (alias_of (v ∷ vs)))
-      (some (true ∷ bits_of 3 (alias_of (v ∷ vs))))
+      (Some (true ∷ bits_of 3 (alias_of (v ∷ vs))))
       (do
         bs ← tokens_bits (v ∷ vs)
-        some (pick ap (false ∷ bs) bs))
+        Some (pick ap (false ∷ bs) bs))
 
   -- the bits before the body: H bits, destination, source, digipeaters, type; nothing for a bad call
   unfoldable pub head_bits : Parsed → ℕ → Option (List Bool)
@@ -54,7 +54,7 @@ module _ (l : ℕ) where
     d ← token_bits l r.dest
     s ← token_bits l r.src
     v ← digi_bits (is_ap r) r.digis
-    some (r.heard ++ (d ++ (s ++ (v ++ bits_of (type_width (is_ap r)) typ))))
+    Some (r.heard ++ (d ++ (s ++ (v ++ bits_of (type_width (is_ap r)) typ))))
 
   -- the body behind the bits of the head
   unfoldable pub info_bits : Parsed → ℕ → List Bool → Outcome (List Bool)
@@ -74,8 +74,8 @@ pub record Coded : Type 0 where
   pub typ : ℕ
 
 abbrev pub or_four : Option (List Bool) → (List Bool → Outcome Coded) → Outcome Coded
-or_four none f = refused 4
-or_four (some b) f = f b
+or_four None f = refused 4
+or_four (Some b) f = f b
 
 abbrev pub packed : ℕ → ℕ → Outcome (List Bool) → Outcome Coded
 packed header typ (refused n) = refused n
@@ -87,8 +87,8 @@ code_parsed command r =
     (λ head. packed (header_of command r) (type_of command r) (frame_bits (call_len command) r (type_of command r) head))
 
 abbrev pub or_three : Option Parsed → (Parsed → Outcome Coded) → Outcome Coded
-or_three none f = refused 3
-or_three (some r) f = f r
+or_three None f = refused 3
+or_three (Some r) f = f r
 
 -- the source's first error, 3, 4 or 5, or the message and its type
 unfoldable pub encode_of : ℕ → List ℕ → Outcome Coded

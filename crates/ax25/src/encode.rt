@@ -1,6 +1,6 @@
 // A frame as a message: `encode` of the source.
 ghost use Rattle.std.specs.Prelude.{◌≡◌, Bool, false, ◌&&◌, List, map, ◌+◌, ◌*◌, ◌^◌, ◌≤◌, ◌<◌, length, eqb};
-ghost use Rattle.std.proofs.Math.Option.{some};
+ghost use Rattle.std.specs.Prelude.{Some};
 ghost use Rattle.laws.specs.Bits.{bits_of, unpack};
 ghost use Rattle.laws.specs.Pick.{pick};
 ghost use Rattle.laws.specs.Wrote.{Wrote};
@@ -93,8 +93,8 @@ fn put_type(t: AprsType, ap: bool, out: &mut [u8], at: usize) -> usize
 
 // The bits before the body, behind the header byte: H bits, destination, source, digipeaters, type.
 fn put_head(frame: &[u8], command: u8, l: usize, r: Record, out: &mut [u8]) -> Put
-    requires { (2 ≤ l) × (l ≤ 7) × (length frame.now < 2 ^ 56) × (some (record_of r) ≡ seen_of command (parse_of l frame.now)) }
-    ensures { (p : Parsed) → parse_of l frame.now ≡ some p
+    requires { (2 ≤ l) × (l ≤ 7) × (length frame.now < 2 ^ 56) × (Some (record_of r) ≡ seen_of command (parse_of l frame.now)) }
+    ensures { (p : Parsed) → parse_of l frame.now ≡ Some p
         → Puts (unpack out.old) 8 (head_bits l p (type_of command p)) (unpack out.new) result }
 {
     let n = r.digis;
@@ -164,8 +164,8 @@ fn body_start(end: usize, ctrl: u8, pid: u8) -> usize
 
 // The body behind the bits of the head.
 fn put_body(frame: &[u8], command: u8, l: usize, r: Record, out: &mut [u8], at: usize) -> Part
-    requires { (2 ≤ l) × (l ≤ 7) × (length frame.now ≤ 4999) × (at < 2 ^ 54) × (some (record_of r) ≡ seen_of command (parse_of l frame.now)) }
-    ensures { (p : Parsed) (head : List Bool) → parse_of l frame.now ≡ some p → at ≡ 8 + length head
+    requires { (2 ≤ l) × (l ≤ 7) × (length frame.now ≤ 4999) × (at < 2 ^ 54) × (Some (record_of r) ≡ seen_of command (parse_of l frame.now)) }
+    ensures { (p : Parsed) (head : List Bool) → parse_of l frame.now ≡ Some p → at ≡ 8 + length head
         → (type_of command p ≡ Text → last_or false head ≡ false)
         → Does (info_bits l p (type_of command p) head) (unpack out.old) at (unpack out.new) result }
 {
@@ -184,7 +184,7 @@ fn put_body(frame: &[u8], command: u8, l: usize, r: Record, out: &mut [u8], at: 
 
 // The message of a frame, whose record is r, as far as the output goes: its length, or the refusal's number.
 pub fn encode(frame: &[u8], command: u8, r: Record, out: &mut [u8]) -> Part
-    requires { (length frame.now ≤ 4999) × (some (record_of r) ≡ seen_of command (parse_of (call_len command) frame.now)) }
+    requires { (length frame.now ≤ 4999) × (Some (record_of r) ≡ seen_of command (parse_of (call_len command) frame.now)) }
     ensures { Codes (encode_of command frame.now) out.old out.new result }
 {
     let l = call_len(command);

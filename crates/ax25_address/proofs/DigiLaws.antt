@@ -3,7 +3,8 @@
 use mathlib.Core.Path.{◌≡◌, refl, sym, ap, ap₂, ◌∙◌}
 use mathlib.Core.Bool.{true, false}
 use mathlib.Core.List.{List, [], ◌∷◌}
-use mathlib.Core.Option.{Option, none, some, none-ne-some, some-injective}
+use Rattle.std.proofs.Common.{Option, None, Some}
+use Rattle.std.proofs.lemmas.Option.{none-some, same_Some}
 use Prim.Native.Nat.{ℕ, suc, ◌+◌, ◌-◌, ◌*◌, ◌%◌, ◌≤◌, ◌<◌}
 use native.Mathlib.Nat.{add-zero, add-mul, mul-le-mul_right}
 use native.Mathlib.Omega.{arith}
@@ -21,32 +22,32 @@ use Rattle.ax25_address.proofs.SizeLaws.{digis_size}
 -- ---- the front of a list
 
 module _ {A : Type 0} (n : ℕ) (d : List A) where
-  pub split_yes : n ≤ length d → split_off n d ≡ some (take n d, drop n d)
+  pub split_yes : n ≤ length d → split_off n d ≡ Some (take n d, drop n d)
   unfolding split_off pick
   split_yes h = rw (le-leb n (length d) h)
 
-  pub split_no : length d < n → split_off n d ≡ none
+  pub split_no : length d < n → split_off n d ≡ None
   unfolding split_off pick
   split_no h = rw (lt-leb n (length d) h)
 
 -- ---- one field
 
 module _ (l k b : ℕ) (d : List ℕ) where
-  fields_last : odd b ≡ true → digi_fields l (suc k) b d ≡ some ([], d)
+  fields_last : odd b ≡ true → digi_fields l (suc k) b d ≡ Some ([], d)
   unfolding digi_fields pick
   fields_last e = rw e
 
-  fields_short : odd b ≡ false → length d < l + 1 → digi_fields l (suc k) b d ≡ none
+  fields_short : odd b ≡ false → length d < l + 1 → digi_fields l (suc k) b d ≡ None
   unfolding digi_fields pick
   fields_short e h = rw (e, split_no (l + 1) d h)
 
 counted_next : (n : ℕ) (f : List ℕ) (o : Option (List (List ℕ) × List ℕ)) (x : Option (List (List ℕ) × List ℕ))
-    → (o ≡ none → x ≡ none) → ((p : List (List ℕ) × List ℕ) → o ≡ some p → x ≡ some (f ∷ p.0, p.1)) → counted n x ≡ counted (n + 1) o
+    → (o ≡ None → x ≡ None) → ((p : List (List ℕ) × List ℕ) → o ≡ Some p → x ≡ Some (f ∷ p.0, p.1)) → counted n x ≡ counted (n + 1) o
 unfolding counted
-counted_next n f none x g h = rw (g refl)
-counted_next n f (some p) x g h =
+counted_next n f None x g h = rw (g refl)
+counted_next n f (Some p) x g h =
     let e : n + suc (length p.0) ≡ n + 1 + length p.0 = omega arith in
-    rw (h p refl) (ap (λ (m : ℕ). some m) e)
+    rw (h p refl) (ap (λ (m : ℕ). Some m) e)
 
 fields_next : (l k b n : ℕ) (d : List ℕ) → odd b ≡ false → l + 1 ≤ length d → counted n (digi_fields l (suc k) b d) ≡ counted (n + 1) (digi_fields l k (get_or d l 0) (drop (l + 1) d))
 unfolding digi_fields pick
@@ -78,7 +79,7 @@ module _ (l n : ℕ) (d : List ℕ) where
   abbrev before : ℕ
   before = get_or d (end_of l n - 1) 0
 
-  pub digis_eight : 8 ≤ n → digis_from l n d ≡ some n
+  pub digis_eight : 8 ≤ n → digis_from l n d ≡ Some n
   unfolding digis_from digi_fields counted
   digis_eight h =
       let e : 8 - n ≡ 0 = omega arith in
@@ -88,11 +89,11 @@ module _ (l n : ℕ) (d : List ℕ) where
     one_of_them : 8 - n ≡ suc (7 - n)
     one_of_them = omega arith
 
-    pub digis_last : before % 2 ≡ 1 → digis_from l n d ≡ some n
+    pub digis_last : before % 2 ≡ 1 → digis_from l n d ≡ Some n
     unfolding digis_from counted odd
     digis_last e = rw (one_of_them, fields_last l (7 - n) before (drop (end_of l n) d) (eq-eqb (before % 2) 1 e), add-zero n)
 
-    pub digis_short : (before % 2 ≡ 1 → ⊥) → length d < end_of l n + (l + 1) → digis_from l n d ≡ none
+    pub digis_short : (before % 2 ≡ 1 → ⊥) → length d < end_of l n + (l + 1) → digis_from l n d ≡ None
     unfolding digis_from counted odd
     digis_short e k =
         rw (one_of_them, fields_short l (7 - n) before (drop (end_of l n) d) (ne_eqb (before % 2) 1 e) (omega (arith, length-drop (end_of l n) d)))
@@ -114,21 +115,21 @@ module _ (l n : ℕ) (d : List ℕ) where
 -- ---- `parse`, by what the count says
 
 -- what is counted
-counted_none : (n : ℕ) (o : Option (List (List ℕ) × List ℕ)) → counted n o ≡ none → o ≡ none
+counted_none : (n : ℕ) (o : Option (List (List ℕ) × List ℕ)) → counted n o ≡ None → o ≡ None
 unfolding counted
-counted_none n none e = refl
-counted_none n (some p) e = absurd (none-ne-some (n + length p.0) (sym e))
+counted_none n None e = refl
+counted_none n (Some p) e = absurd (none-some (n + length p.0) (sym e))
 
-counted_some : {P : Type 0} (m : ℕ) (o : Option (List (List ℕ) × List ℕ)) → counted 0 o ≡ some m
-    → ((p : List (List ℕ) × List ℕ) → o ≡ some p → length p.0 ≡ m → P) → P
+counted_some : {P : Type 0} (m : ℕ) (o : Option (List (List ℕ) × List ℕ)) → counted 0 o ≡ Some m
+    → ((p : List (List ℕ) × List ℕ) → o ≡ Some p → length p.0 ≡ m → P) → P
 unfolding counted
-counted_some m none e k = absurd (none-ne-some m e)
-counted_some m (some p) e k =
-    let q : 0 + length p.0 ≡ m = some-injective (0 + length p.0) m e in
+counted_some m None e k = absurd (none-some m e)
+counted_some m (Some p) e k =
+    let q : 0 + length p.0 ≡ m = same_Some (0 + length p.0) m e in
     k p refl (omega (arith, q))
 
 module _ (l : ℕ) (d : List ℕ) where
-  parse_no : length d < end_of l 0 → parse_of l d ≡ none
+  parse_no : length d < end_of l 0 → parse_of l d ≡ None
   unfolding parse_of
   parse_no h =
       by_le (l + 1) (length d)
@@ -136,7 +137,7 @@ module _ (l : ℕ) (d : List ℕ) where
       (λ k. rw (split_no (l + 1) d k))
 
   -- destination or source is cut off
-  pub count_no : length d < end_of l 0 → none ≡ count_of (parse_of l d)
+  pub count_no : length d < end_of l 0 → None ≡ count_of (parse_of l d)
   unfolding count_of
   count_no h = rw (parse_no h)
 
@@ -144,10 +145,10 @@ module _ (l : ℕ) (d : List ℕ) where
     abbrev fields : Option (List (List ℕ) × List ℕ)
     fields = digi_fields l 8 (get_or d (end_of l 0 - 1) 0) (drop (end_of l 0) d)
 
-    first_split : split_off (l + 1) d ≡ some (take (l + 1) d, drop (l + 1) d)
+    first_split : split_off (l + 1) d ≡ Some (take (l + 1) d, drop (l + 1) d)
     first_split = split_yes (l + 1) d (omega arith)
 
-    second_split : split_off (l + 1) (drop (l + 1) d) ≡ some (take (l + 1) (drop (l + 1) d), drop (l + 1) (drop (l + 1) d))
+    second_split : split_off (l + 1) (drop (l + 1) d) ≡ Some (take (l + 1) (drop (l + 1) d), drop (l + 1) (drop (l + 1) d))
     second_split = split_yes (l + 1) (drop (l + 1) d) (omega (arith, length-drop (l + 1) d))
 
     same_fields : digi_fields l 8 (get_or (take (l + 1) (drop (l + 1) d)) l 0) (drop (l + 1) (drop (l + 1) d)) ≡ fields
@@ -158,16 +159,16 @@ module _ (l : ℕ) (d : List ℕ) where
         (get_or-take (l + 1) (drop (l + 1) d) l 0 (omega arith) ∙ get_or-drop (l + 1) d l 0 ∙ ap (λ (i : ℕ). get_or d i 0) at)
         (drop-drop (l + 1) (l + 1) d ∙ ap (λ (i : ℕ). drop i d) on)
 
-    parse_none : fields ≡ none → parse_of l d ≡ none
+    parse_none : fields ≡ None → parse_of l d ≡ None
     unfolding parse_of
     parse_none e = rw (first_split, second_split, same_fields, e)
 
-    module _ (p : List (List ℕ) × List ℕ) (e : fields ≡ some p) where
-      parse_end : length p.1 < 2 → parse_of l d ≡ none
+    module _ (p : List (List ℕ) × List ℕ) (e : fields ≡ Some p) where
+      parse_end : length p.1 < 2 → parse_of l d ≡ None
       unfolding parse_of
       parse_end k = rw (first_split, second_split, same_fields, e, split_no 2 p.1 k)
 
-      parse_some : 2 ≤ length p.1 → count_of (parse_of l d) ≡ some (length p.0)
+      parse_some : 2 ≤ length p.1 → count_of (parse_of l d) ≡ Some (length p.0)
       unfolding parse_of count_of
       parse_some k = rw (first_split, second_split, same_fields, e, split_yes 2 p.1 k, length-map p.0 (addr_call l))
 
@@ -176,11 +177,11 @@ module _ (l : ℕ) (d : List ℕ) where
           omega (arith, (digis_size l 8 (get_or d (end_of l 0 - 1) 0) (drop (end_of l 0) d) p e).1, length-drop (end_of l 0) d, add-mul (length p.0) 2 (l + 1))
 
     -- a field is cut off
-    pub count_cut : digis_from l 0 d ≡ none → none ≡ count_of (parse_of l d)
+    pub count_cut : digis_from l 0 d ≡ None → None ≡ count_of (parse_of l d)
     unfolding digis_from count_of
     count_cut e = rw (parse_none (counted_none 0 fields e))
 
-    module _ (n : ℕ) (e : digis_from l 0 d ≡ some n) where
+    module _ (n : ℕ) (e : digis_from l 0 d ≡ Some n) where
       pub count_few : n ≤ 8
       unfolding digis_from
       count_few =
@@ -188,7 +189,7 @@ module _ (l : ℕ) (d : List ℕ) where
           (λ p q s. omega (arith, s, (digis_size l 8 (get_or d (end_of l 0 - 1) 0) (drop (end_of l 0) d) p q).0))
 
       -- control or PID is missing
-      pub count_end : length d < end_of l n + 2 → none ≡ count_of (parse_of l d)
+      pub count_end : length d < end_of l n + 2 → None ≡ count_of (parse_of l d)
       unfolding digis_from count_of
       count_end k =
           counted_some n fields e
@@ -196,10 +197,10 @@ module _ (l : ℕ) (d : List ℕ) where
           let z : end_of l (length p.0) ≡ end_of l n = ap (end_of l) s in
           rw (parse_end p q (omega (arith, z, parse_length p q))))
 
-      pub count_is : end_of l n + 2 ≤ length d → some n ≡ count_of (parse_of l d)
+      pub count_is : end_of l n + 2 ≤ length d → Some n ≡ count_of (parse_of l d)
       unfolding digis_from
       count_is k =
           counted_some n fields e
           (λ p q s.
           let z : end_of l (length p.0) ≡ end_of l n = ap (end_of l) s in
-          sym (parse_some p q (omega (arith, z, parse_length p q)) ∙ ap (λ (m : ℕ). some m) s))
+          sym (parse_some p q (omega (arith, z, parse_length p q)) ∙ ap (λ (m : ℕ). Some m) s))

@@ -3,7 +3,7 @@
 use mathlib.Core.Path.{◌≡◌, refl, ap, ap₂}
 use mathlib.Core.Bool.{Bool, true, false}
 use mathlib.Core.List.{List, [], ◌∷◌, ◌++◌}
-use mathlib.Core.Option.{some}
+use Rattle.std.proofs.Common.{Some}
 use Prim.Native.Nat.{ℕ, zero, suc, ◌≤◌, ◌<◌}
 use native.Mathlib.Nat.{not-suc-le-zero, le_of_suc-le-suc}
 use native.Mathlib.Omega.{arith}
@@ -21,7 +21,7 @@ use Rattle.ax25_address.specs.Types.{Binary}
 
 -- ---- the front of a list
 
-pub split_off_lem : {A : Type 0} (n : ℕ) (s t : List A) → length s ≡ n → split_off n (s ++ t) ≡ some (s, t)
+pub split_off_lem : {A : Type 0} (n : ℕ) (s t : List A) → length s ≡ n → split_off n (s ++ t) ≡ Some (s, t)
 unfolding split_off pick
 split_off_lem n s t e =
     let h : n ≤ length (s ++ t) = omega (arith, length-append s t) in

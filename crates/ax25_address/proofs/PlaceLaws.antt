@@ -2,7 +2,8 @@
 -- Assumes nothing.
 use mathlib.Core.Path.{◌≡◌, refl, sym, ap, ap₂, ◌∙◌}
 use mathlib.Core.List.{List, [], ◌∷◌, map}
-use mathlib.Core.Option.{Option, none, some, none-ne-some, some-injective}
+use Rattle.std.proofs.Common.{Option, None, Some}
+use Rattle.std.proofs.lemmas.Option.{none-some, same_Some}
 use Prim.Native.Nat.{ℕ, zero, suc, ◌+◌, ◌*◌, ◌≤◌}
 use native.Mathlib.Nat.{add-zero, add-mul}
 use native.Mathlib.Omega.{arith}
@@ -32,13 +33,13 @@ drop_none l d =
     let z : 0 ≡ 0 * (l + 1) = omega arith in
     ap (λ (j : ℕ). drop j d) z
 
-fields_are : (l k b : ℕ) (d : List ℕ) (p : List (List ℕ) × List ℕ) → digi_fields l k b d ≡ some p
+fields_are : (l k b : ℕ) (d : List ℕ) (p : List (List ℕ) × List ℕ) → digi_fields l k b d ≡ Some p
     → (p.0 ≡ fields_of l (length p.0) d) × (p.1 ≡ drop (length p.0 * (l + 1)) d)
 unfolding digi_fields fields_of pick
-fields_are l zero b d p e = rw (← some-injective ([], d) p e) (refl, drop_none l d)
+fields_are l zero b d p e = rw (← same_Some ([], d) p e) (refl, drop_none l d)
 fields_are l (suc k) b d p e =
     by_test (odd b)
-    (λ t. rw (← some-injective ([], d) p (rw t at e)) (refl, drop_none l d))
+    (λ t. rw (← same_Some ([], d) p (rw t at e)) (refl, drop_none l d))
     (λ t. from_some (split_off (l + 1) d) _ p (rw t at e)
     (λ q eq g. from_some (digi_fields l k (get_or q.0 l 0) q.1) _ p g
     (λ r er h.
@@ -46,7 +47,7 @@ fields_are l (suc k) b d p e =
     let i = fields_are l k (get_or q.0 l 0) q.1 r er in
     let n = length r.0 in
     let m : l + 1 + n * (l + 1) ≡ suc n * (l + 1) = omega arith in
-    rw (← some-injective (q.0 ∷ r.0, r.1) p h) (
+    rw (← same_Some (q.0 ∷ r.0, r.1) p h) (
       ap₂ (λ (f : List ℕ) (fs : List (List ℕ)). f ∷ fs) s.1 (i.0 ∙ ap (fields_of l n) s.2),
       i.1 ∙ ap (drop (n * (l + 1))) s.2 ∙ drop-drop (n * (l + 1)) (l + 1) d ∙ ap (λ (j : ℕ). drop j d) m,
     ))))
@@ -62,7 +63,7 @@ pub record Places (l : ℕ) (d : List ℕ) (r : Parsed) (n : ℕ) : Type 0 where
   pub pid_is : r.pid ≡ get_or d ((n + 2) * (l + 1) + 1) 0
   pub info_is : r.info ≡ drop ((n + 2) * (l + 1) + 2) d
 
-pub parse_places : (l : ℕ) (d : List ℕ) (r : Parsed) → parse_of l d ≡ some r → Places l d r (length r.digis)
+pub parse_places : (l : ℕ) (d : List ℕ) (r : Parsed) → parse_of l d ≡ Some r → Places l d r (length r.digis)
 parse_places l d r e =
     parse_by (λ t. Places l d t (length t.digis)) l d r e
     (λ p q v w ep eq ev ew.
@@ -93,28 +94,28 @@ parse_places l d r e =
 -- a frame with n digipeaters: its parts, where they stand, and its length
 pub record Has (l : ℕ) (d : List ℕ) (n : ℕ) : Type 0 where
   pub parts : Parsed
-  pub parsed : parse_of l d ≡ some parts
+  pub parsed : parse_of l d ≡ Some parts
   pub count : length parts.digis ≡ n
   pub places : Places l d parts n
   pub few : n ≤ 8
   pub total : length d ≡ (n + 2) * (l + 1) + 2 + length parts.info
 
-has_by : (l : ℕ) (d : List ℕ) (n : ℕ) (o : Option Parsed) → parse_of l d ≡ o → some n ≡ count_of o → Has l d n
+has_by : (l : ℕ) (d : List ℕ) (n : ℕ) (o : Option Parsed) → parse_of l d ≡ o → Some n ≡ count_of o → Has l d n
 unfolding count_of
-has_by l d n none e h = absurd (none-ne-some n (sym h))
-has_by l d n (some p) e h =
-    let m : length p.digis ≡ n = sym (some-injective n (length p.digis) h) in
+has_by l d n None e h = absurd (none-some n (sym h))
+has_by l d n (Some p) e h =
+    let m : length p.digis ≡ n = sym (same_Some n (length p.digis) h) in
     let sized = parse_size l d p e in
     record { parts = p; parsed = e; count = m; places = rw m at (parse_places l d p e); few = rw m at sized.few; total = rw m at sized.total }
 
-short_by : (o : Option Parsed) → none ≡ count_of o → o ≡ none
+short_by : (o : Option Parsed) → None ≡ count_of o → o ≡ None
 unfolding count_of
-short_by none h = refl
-short_by (some p) h = absurd (none-ne-some (length p.digis) h)
+short_by None h = refl
+short_by (Some p) h = absurd (none-some (length p.digis) h)
 
 module _ (l : ℕ) (d : List ℕ) (r : Digis) (told : digis_of r ≡ count_of (parse_of l d)) where
   pub found_has : (n : ℕ) → r ≡ Found n → Has l d n
   found_has n e = has_by l d n (parse_of l d) refl (sym (ap digis_of e) ∙ told)
 
-  pub short_none : r ≡ Short → parse_of l d ≡ none
+  pub short_none : r ≡ Short → parse_of l d ≡ None
   short_none e = short_by (parse_of l d) (sym (ap digis_of e) ∙ told)

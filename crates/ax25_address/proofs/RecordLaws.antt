@@ -3,7 +3,8 @@
 use mathlib.Core.Path.{◌≡◌, refl, sym, ap, subst, ◌∙◌}
 use mathlib.Core.Bool.{Bool, ◌&&◌, not}
 use mathlib.Core.List.{List, map}
-use mathlib.Core.Option.{Option, none, some, none-ne-some, some-injective}
+use Rattle.std.proofs.Common.{Option, None, Some}
+use Rattle.std.proofs.lemmas.Option.{none-some, same_Some}
 use Prim.Native.Nat.{ℕ, ◌+◌, ◌-◌, ◌*◌, ◌≤◌}
 use native.Mathlib.Nat.{add-mul}
 use native.Mathlib.Omega.{arith}
@@ -44,20 +45,20 @@ module _ (command l : ℕ) (d : List ℕ) (letters : l ≡ call_len command) whe
         alias = alias_of (map (addr_call l) (fields_of l n (drop (2 * (l + 1)) d)));
         typ = classify_of t (drop ((n + 2) * (l + 1) + 2) d);
       }
-      → some s ≡ seen_of command (parse_of (call_len command) d)
+      → Some s ≡ seen_of command (parse_of (call_len command) d)
   unfolding seen_of type_of
   seen_some n h a t s ea et es =
       let p = h.places in
       at_letters (rw (es, et, ea, h.parsed, h.count, p.dest_is, p.digis_are, p.control_is, p.pid_is, p.info_is))
 
-  pub seen_none : parse_of l d ≡ none → none ≡ seen_of command (parse_of (call_len command) d)
+  pub seen_none : parse_of l d ≡ None → None ≡ seen_of command (parse_of (call_len command) d)
   unfolding seen_of
   seen_none e = at_letters (rw e)
 
 -- what a record says of the frame that it is of
 pub record Known (command l : ℕ) (d : List ℕ) (s : Seen) : Type 0 where
   pub parts : Parsed
-  pub parsed : parse_of l d ≡ some parts
+  pub parsed : parse_of l d ≡ Some parts
   pub is : s ≡ seen command parts
   pub places : Places l d parts s.digis
   pub few : s.digis ≤ 8
@@ -65,13 +66,13 @@ pub record Known (command l : ℕ) (d : List ℕ) (s : Seen) : Type 0 where
   pub front : 2 * (l + 1) ≤ length d
   pub behind : s.digis * (l + 1) ≤ length d - 2 * (l + 1)
 
-pub known : (command l : ℕ) (d : List ℕ) (s : Seen) → some s ≡ seen_of command (parse_of l d) → Known command l d s
+pub known : (command l : ℕ) (d : List ℕ) (s : Seen) → Some s ≡ seen_of command (parse_of l d) → Known command l d s
 known command l d s e = by (parse_of l d) refl e
   where
-    by : (o : Option Parsed) → parse_of l d ≡ o → some s ≡ seen_of command o → Known command l d s
-    by none p f = absurd (none-ne-some s (sym (f ∙ unfold seen_of in refl)))
-    by (some r) p f =
-        let q : s ≡ seen command r = some-injective s (seen command r) (f ∙ unfold seen_of in refl) in
+    by : (o : Option Parsed) → parse_of l d ≡ o → Some s ≡ seen_of command o → Known command l d s
+    by None p f = absurd (none-some s (sym (f ∙ unfold seen_of in refl)))
+    by (Some r) p f =
+        let q : s ≡ seen command r = same_Some s (seen command r) (f ∙ unfold seen_of in refl) in
         let n : length r.digis ≡ s.digis = sym (ap (λ (t : Seen). t.digis) q) in
         let size = parse_size l d r p in
         let all : length d ≡ (s.digis + 2) * (l + 1) + 2 + length r.info = rw n at size.total in

@@ -2,7 +2,8 @@
 -- Assumes nothing.
 use mathlib.Core.Path.{◌≡◌, refl, sym, ap, subst, ◌∙◌}
 use mathlib.Core.List.{List, [], ◌∷◌, map, map-append}
-use mathlib.Core.Option.{some, none-ne-some, some-injective}
+use Rattle.std.proofs.Common.{Some}
+use Rattle.std.proofs.lemmas.Option.{none-some, same_Some}
 use Prim.Native.Nat.{ℕ, zero, suc, ◌+◌, ◌*◌, ◌/◌, ◌%◌, ◌≤◌}
 use native.Mathlib.Nat.{add-mul}
 use native.Mathlib.Omega.{arith}
@@ -55,9 +56,9 @@ parsed_of l f g fs w =
       info = w.1;
     }
 
-pub parse_by : (P : Parsed → Type 0) (l : ℕ) (d : List ℕ) (r : Parsed) → parse_of l d ≡ some r
-    → ((p q : List ℕ × List ℕ) (v : List (List ℕ) × List ℕ) (w : List ℕ × List ℕ) → split_off (l + 1) d ≡ some p → split_off (l + 1) p.1 ≡ some q
-    → digi_fields l 8 (get_or q.0 l 0) q.1 ≡ some v → split_off 2 v.1 ≡ some w → P (parsed_of l p.0 q.0 v.0 w))
+pub parse_by : (P : Parsed → Type 0) (l : ℕ) (d : List ℕ) (r : Parsed) → parse_of l d ≡ Some r
+    → ((p q : List ℕ × List ℕ) (v : List (List ℕ) × List ℕ) (w : List ℕ × List ℕ) → split_off (l + 1) d ≡ Some p → split_off (l + 1) p.1 ≡ Some q
+    → digi_fields l 8 (get_or q.0 l 0) q.1 ≡ Some v → split_off 2 v.1 ≡ Some w → P (parsed_of l p.0 q.0 v.0 w))
     → P r
 unfolding parse_of
 parse_by P l d r e k =
@@ -65,20 +66,20 @@ parse_by P l d r e k =
     (λ p ep e₁. from_some (split_off (l + 1) p.1) _ r e₁
     (λ q eq e₂. from_some (digi_fields l 8 (get_or q.0 l 0) q.1) _ r e₂
     (λ v ev e₃. from_some (split_off 2 v.1) _ r e₃
-    (λ w ew e₄. subst P (some-injective (parsed_of l p.0 q.0 v.0 w) r e₄) (k p q v w ep eq ev ew)))))
+    (λ w ew e₄. subst P (same_Some (parsed_of l p.0 q.0 v.0 w) r e₄) (k p q v w ep eq ev ew)))))
 
 -- ---- the lengths of the parts
 
 -- what is split off
-pub split_is : {A : Type 0} (n : ℕ) (d : List A) (p : List A × List A) → split_off n d ≡ some p → (n ≤ length d) × (p.0 ≡ take n d) × (p.1 ≡ drop n d)
+pub split_is : {A : Type 0} (n : ℕ) (d : List A) (p : List A × List A) → split_off n d ≡ Some p → (n ≤ length d) × (p.0 ≡ take n d) × (p.1 ≡ drop n d)
 unfolding split_off pick
 split_is n d p e =
     by_test (leb n (length d))
-    (λ t. rw (← some-injective (take n d, drop n d) p (rw t at e)) (leb-true n (length d) t, refl, refl))
-    (λ t. absurd (none-ne-some p (rw t at e)))
+    (λ t. rw (← same_Some (take n d, drop n d) p (rw t at e)) (leb-true n (length d) t, refl, refl))
+    (λ t. absurd (none-some p (rw t at e)))
 
 -- it has its length
-split_size : {A : Type 0} (n : ℕ) (d : List A) (p : List A × List A) → split_off n d ≡ some p → (length p.0 ≡ n) × (length d ≡ n + length p.1)
+split_size : {A : Type 0} (n : ℕ) (d : List A) (p : List A × List A) → split_off n d ≡ Some p → (length p.0 ≡ n) × (length d ≡ n + length p.1)
 split_size n d p e =
     let s = split_is n d p e in
     let front : length p.0 ≡ length (take n d) = ap length s.1 in
@@ -86,19 +87,19 @@ split_size n d p e =
     (omega (arith, s.0, front, length-take n d), omega (arith, s.0, rest, length-drop n d))
 
 -- further fields: at most k, of l + 1 bytes each
-pub digis_size : (l k b : ℕ) (d : List ℕ) (p : List (List ℕ) × List ℕ) → digi_fields l k b d ≡ some p
+pub digis_size : (l k b : ℕ) (d : List ℕ) (p : List (List ℕ) × List ℕ) → digi_fields l k b d ≡ Some p
     → (length p.0 ≤ k) × (length d ≡ length p.0 * (l + 1) + length p.1)
 unfolding digi_fields pick
-digis_size l zero b d p e = rw (← some-injective ([], d) p e) (omega arith, omega arith)
+digis_size l zero b d p e = rw (← same_Some ([], d) p e) (omega arith, omega arith)
 digis_size l (suc k) b d p e =
     by_test (odd b)
-    (λ t. rw (← some-injective ([], d) p (rw t at e)) (omega arith, omega arith))
+    (λ t. rw (← same_Some ([], d) p (rw t at e)) (omega arith, omega arith))
     (λ t. from_some (split_off (l + 1) d) _ p (rw t at e)
     (λ q eq g. from_some (digi_fields l k (get_or q.0 l 0) q.1) _ p g
     (λ r er h.
     let s = split_size (l + 1) d q eq in
     let i = digis_size l k (get_or q.0 l 0) q.1 r er in
-    rw (← some-injective (q.0 ∷ r.0, r.1) p h) (omega (arith, i.0), omega (arith, i.1, s.1)))))
+    rw (← same_Some (q.0 ∷ r.0, r.1) p h) (omega (arith, i.0), omega (arith, i.1, s.1)))))
 
 -- the calls have at most l letters
 abbrev pub AllBase : ℕ → List (List ℕ) → Type 0
@@ -118,7 +119,7 @@ pub record Sized (l : ℕ) (r : Parsed) (size : ℕ) : Type 0 where
   pub one_each : length r.heard ≡ length r.digis
   pub total : size ≡ (length r.digis + 2) * (l + 1) + 2 + length r.info
 
-pub parse_size : (l : ℕ) (d : List ℕ) (r : Parsed) → parse_of l d ≡ some r → Sized l r (length d)
+pub parse_size : (l : ℕ) (d : List ℕ) (r : Parsed) → parse_of l d ≡ Some r → Sized l r (length d)
 parse_size l d r e =
     parse_by (λ t. Sized l t (length d)) l d r e
     (λ p q v w ep eq ev ew.

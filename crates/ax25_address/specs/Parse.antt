@@ -1,7 +1,7 @@
 -- `parse`: the parts of a frame.
 -- Assumes nothing.
 use Rattle.std.specs.Prelude.{Bool, true, false, ◌&&◌, not, List, [], ◌∷◌, ◌++◌, map, ℕ, zero, suc, ◌+◌, length, get_or, take, drop, leb, eqb}
-use Rattle.std.proofs.Math.Option.{Option, none, some}
+use Rattle.std.specs.Prelude.{Option, None, Some}
 use Rattle.laws.specs.Bits.{odd}
 use Rattle.laws.specs.Pick.{pick, ◌>>=◌}
 use Rattle.laws.specs.Text.{ascii, upper, same, starts}
@@ -11,7 +11,7 @@ use Rattle.ax25_address.specs.Types.{Ax25Long}
 
 -- the first n, and what follows them; nothing where there are fewer
 unfoldable pub split_off : {A : Type 0} → ℕ → List A → Option (List A × List A)
-split_off n d = pick (leb n (length d)) (some (take n d, drop n d)) none
+split_off n d = pick (leb n (length d)) (Some (take n d, drop n d)) None
 
 -- texts of destination, source and digipeaters, their H bits, control, PID, and the information
 pub record Parsed : Type 0 where
@@ -25,14 +25,14 @@ pub record Parsed : Type 0 where
 
 -- further address fields, at most so many, while the low bit of the SSID byte before, b, is 0; and what follows them
 unfoldable pub digi_fields : ℕ → ℕ → ℕ → List ℕ → Option (List (List ℕ) × List ℕ)
-digi_fields l zero b d = some ([], d)
+digi_fields l zero b d = Some ([], d)
 digi_fields l (suc k) b d =
     pick (odd b)
-    (some ([], d))
+    (Some ([], d))
     (do
       (f, r) ← split_off (l + 1) d
       (fs, e) ← digi_fields l k (get_or f l 0) r
-      some (f ∷ fs, e))
+      Some (f ∷ fs, e))
 
 -- nothing where the frame is short. Destination and source are upper-cased, digipeaters are not; there are at most eight
 unfoldable pub parse_of : ℕ → List ℕ → Option Parsed
@@ -41,7 +41,7 @@ parse_of l d = do
   (g, s) ← split_off (l + 1) r
   (fs, e) ← digi_fields l 8 (get_or g l 0) s
   (c, i) ← split_off 2 e
-  some (record {
+  Some (record {
     dest = map upper (addr_call l f);
     src = map upper (addr_call l g);
     digis = map (addr_call l) fs;
@@ -58,8 +58,8 @@ fields_of l (suc n) d = take (l + 1) d ∷ fields_of l n (drop (l + 1) d)
 
 -- how many digipeaters a frame has; nothing where it is short
 unfoldable pub count_of : Option Parsed → Option ℕ
-count_of none = none
-count_of (some r) = some (length r.digis)
+count_of None = None
+count_of (Some r) = Some (length r.digis)
 
 -- both control 03 and PID F0
 abbrev pub is_ui : Parsed → Bool

@@ -1,7 +1,7 @@
 -- What `parse` answers of a frame: the source's `Record`, without the addresses, which are read again where they are needed.
 -- Assumes nothing.
 use Rattle.std.specs.Prelude.{Bool, ℕ, length}
-use Rattle.std.proofs.Math.Option.{Option, none, some}
+use Rattle.std.specs.Prelude.{Option, None, Some}
 use Rattle.ax25_address.specs.Kind.{type_number}
 use Rattle.ax25_address.specs.Parse.{Parsed, is_ap, type_of, alias_of}
 use Rattle.ax25_address.specs.declared.record.Record.{Record}
@@ -22,12 +22,12 @@ seen command r =
     record { digis = length r.digis; ap = is_ap r; ctrl = r.control; pid = r.pid; alias = alias_of r.digis; typ = type_of command r }
 
 unfoldable pub seen_of : ℕ → Option Parsed → Option Seen
-seen_of command none = none
-seen_of command (some r) = some (seen command r)
+seen_of command None = None
+seen_of command (Some r) = Some (seen command r)
 
 abbrev pub record_of : Record → Seen
 record_of r = record { digis = r.digis; ap = r.ap; ctrl = r.ctrl; pid = r.pid; alias = r.alias; typ = type_number r.aprs_type }
 
 abbrev pub found_of : found.Parsed → Option Seen
-found_of (Found r) = some (record_of r)
-found_of Short = none
+found_of (Found r) = Some (record_of r)
+found_of Short = None

@@ -3,7 +3,7 @@
 use mathlib.Core.Path.{◌≡◌}
 use mathlib.Core.Bool.{Bool, false, false≢true}
 use mathlib.Core.List.{List, [], ◌∷◌, ◌++◌, append_assoc}
-use mathlib.Core.Option.{some}
+use Rattle.std.proofs.Common.{Some}
 use Prim.Native.Nat.{ℕ, ◌*◌, ◌%◌, ◌^◌, ◌≤◌}
 use native.Mathlib.Nat.{mod-eq_of_lt}
 use native.Mathlib.Omega.{arith}
@@ -35,7 +35,7 @@ use Rattle.ax25_aprs.proofs.CallLaws.{call_nine, call_filled}
 pub record BodyBack (mended : Bool) (typ l : ℕ) (info : List ℕ) : Type 0 where
   pub coded : List Bool
   pub is_coded : body_bits typ l (drop 1 info) ≡ answer coded
-  pub is_read : (z : ℕ) → read_body mended typ l (coded ++ replicate z false) ≡ some info
+  pub is_read : (z : ℕ) → read_body mended typ l (coded ++ replicate z false) ≡ Some info
   pub size : length coded ≤ 7 * length info
 
 -- ---- the time

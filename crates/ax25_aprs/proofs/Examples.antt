@@ -3,7 +3,7 @@
 use mathlib.Core.Path.{◌≡◌, refl}
 use mathlib.Core.Bool.{Bool, true, false, ◌&&◌, ◌||◌, not, false≢true}
 use mathlib.Core.List.{List, [], ◌∷◌, ◌++◌}
-use mathlib.Core.Option.{some}
+use Rattle.std.proofs.Common.{Some}
 use Prim.Native.Nat.{ℕ, ◌+◌, ◌≤◌, ◌<◌}
 use native.Mathlib.Omega.{arith}
 use lib.ListN.{length, get_or, take, drop, drop_of_length-le}
@@ -119,6 +119,6 @@ codes_to [] = []
 codes_to (c ∷ cs) = bits_of 7 c ++ codes_to cs
 
 -- the words in order have the codes 1 to 9
-pub all_words : text_bits false (ascii "/A=00VARAPinPointHF ackAPRSping{DigiGate") ≡ some (codes_to (1 ∷ 2 ∷ 3 ∷ 4 ∷ 5 ∷ 6 ∷ 7 ∷ 8 ∷ 9 ∷ []))
+pub all_words : text_bits false (ascii "/A=00VARAPinPointHF ackAPRSping{DigiGate") ≡ Some (codes_to (1 ∷ 2 ∷ 3 ∷ 4 ∷ 5 ∷ 6 ∷ 7 ∷ 8 ∷ 9 ∷ []))
 unfolding text_bits text_from joined before front_bits front_size altitude_at word_at first_of words word starts pick bits_of odd
 all_words = refl

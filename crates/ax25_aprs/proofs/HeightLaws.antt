@@ -3,7 +3,7 @@
 use mathlib.Core.Path.{◌≡◌, refl}
 use mathlib.Core.Bool.{true, false}
 use mathlib.Core.List.{List, [], ◌∷◌}
-use mathlib.Core.Option.{none, some}
+use Rattle.std.proofs.Common.{None, Some}
 use Prim.Native.Nat.{ℕ, suc, ◌≤◌, ◌<◌}
 use native.Mathlib.Omega.{arith}
 use lib.ListN.{length, get_or, drop}
@@ -32,17 +32,17 @@ module _ (s : List ℕ) (i : ℕ) (h : i < length s) where
 
 -- ---- the number, by cases
 
-pub unsigned_none : (s : List ℕ) → length s ≡ 0 → unsigned s ≡ none
+pub unsigned_none : (s : List ℕ) → length s ≡ 0 → unsigned s ≡ None
 unfolding unsigned
 unsigned_none [] h = refl
 unsigned_none (c ∷ s) h = absurd (omega arith)
 
-pub unsigned_no : (s : List ℕ) → all_digits s ≡ false → unsigned s ≡ none
+pub unsigned_no : (s : List ℕ) → all_digits s ≡ false → unsigned s ≡ None
 unfolding unsigned pick
 unsigned_no [] e = refl
 unsigned_no (c ∷ s) e = rw e
 
-pub unsigned_yes : (s : List ℕ) → 0 < length s → all_digits s ≡ true → unsigned s ≡ some (val_of s)
+pub unsigned_yes : (s : List ℕ) → 0 < length s → all_digits s ≡ true → unsigned s ≡ Some (val_of s)
 unfolding unsigned pick
 unsigned_yes [] h e = absurd (omega arith)
 unsigned_yes (c ∷ s) h e = rw e

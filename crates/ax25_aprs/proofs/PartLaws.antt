@@ -3,7 +3,7 @@
 use mathlib.Core.Path.{◌≡◌, refl, ap}
 use mathlib.Core.Bool.{Bool}
 use mathlib.Core.List.{List, ◌++◌}
-use mathlib.Core.Option.{Option, none, some}
+use Rattle.std.proofs.Common.{Option, None, Some}
 use Prim.Native.Nat.{ℕ, ◌+◌}
 use native.Mathlib.Omega.{arith}
 use lib.ListN.{length, length-append}
@@ -58,21 +58,21 @@ was_refused (answer x) b at c n h =
     absurd (omega arith)
 
 -- bits before those of a text
-pub refused_joined : (n : ℕ) (x : List Bool) (y : Option (List Bool)) → or_refused n (joined (some x) y) ≡ (answer x then or_refused n y)
+pub refused_joined : (n : ℕ) (x : List Bool) (y : Option (List Bool)) → or_refused n (joined (Some x) y) ≡ (answer x then or_refused n y)
 unfolding joined before
-refused_joined n x none = refl
-refused_joined n x (some y) = refl
+refused_joined n x None = refl
+refused_joined n x (Some y) = refl
 
 -- ---- read
 
 -- a text that was written
-pub reads : {b : List ℕ} {to : ℕ} {x c : List ℕ} {next : ℕ} → Wrote b to x c next → Reads (some x) b to c (got.Next next)
+pub reads : {b : List ℕ} {to : ℕ} {x c : List ℕ} {next : ℕ} → Wrote b to x c next → Reads (Some x) b to c (got.Next next)
 reads w = (ap got.Next w.next_is, at_place w)
 
 -- what is read after a write stands behind it
 pub reads_then : {b : List ℕ} {to : ℕ} {x c : List ℕ} {p : ℕ} → Wrote b to x c p → (o : Option (List ℕ)) (d : List ℕ) (r : Got)
-    → Reads o c p d r → Reads (o >>= (λ t. some (x ++ t))) b to d r
-reads_then {b} {to} {x} {c} {p} w none d r h = h
-reads_then {b} {to} {x} {c} {p} w (some y) d r h =
+    → Reads o c p d r → Reads (o >>= (λ t. Some (x ++ t))) b to d r
+reads_then {b} {to} {x} {c} {p} w None d r h = h
+reads_then {b} {to} {x} {c} {p} w (Some y) d r h =
     let e : p + length y ≡ to + length (x ++ y) = omega (arith, w.next_is, length-append x y) in
     (rw e at h.0, rw e at (wrote_then w h.1))

@@ -3,7 +3,7 @@
 use mathlib.Core.Path.{◌≡◌, refl, sym, ap, ◌∙◌}
 use mathlib.Core.Bool.{Bool, true, false}
 use mathlib.Core.List.{List, [], ◌∷◌, ◌++◌, append_assoc}
-use mathlib.Core.Option.{some}
+use Rattle.std.proofs.Common.{Some}
 use Prim.Native.Nat.{ℕ, suc, ◌+◌, ◌%◌, ◌^◌, ◌≤◌, ◌<◌}
 use native.Mathlib.Nat.{mod-eq_of_lt}
 use native.Mathlib.Omega.{arith}
@@ -178,7 +178,7 @@ side_bits_lem y n false h = rw (ne_eqb n y (λ e. h (sym e)), eq-eqb n n refl)
 pub record PlaceBack (s : Place) : Type 0 where
   pub coded : List Bool
   pub is_coded : latlon_bits (place_bytes s) ≡ answer coded
-  pub is_read : (z : ℕ) → read_latlon (coded ++ replicate z false) ≡ some (place_bytes s)
+  pub is_read : (z : ℕ) → read_latlon (coded ++ replicate z false) ≡ Some (place_bytes s)
   pub long : 19 ≤ length (place_bytes s)
 
 module _ (s : Place) (plain : PlainPlace s) where
@@ -199,7 +199,7 @@ module _ (s : Place) (plain : PlainPlace s) where
   unfolding latlon_bits pick
   place_coded = rw (le-ltb (length (place_bytes s)) 19 stands.size, stands.comment, text.is_coded)
 
-  place_read : (z : ℕ) → read_latlon ((place_bits (place_bytes s) ++ text.coded) ++ replicate z false) ≡ some (place_bytes s)
+  place_read : (z : ℕ) → read_latlon ((place_bits (place_bytes s) ++ text.coded) ++ replicate z false) ≡ Some (place_bytes s)
   unfolding read_latlon pick lat_text lon_text place_bytes
   place_read z =
       let d = plain.lat_digits in

@@ -3,7 +3,7 @@
 use mathlib.Core.Path.{◌≡◌, refl, sym, ap, ap₂, ◌∙◌}
 use mathlib.Core.Bool.{Bool, true, false}
 use mathlib.Core.List.{List, [], ◌∷◌, ◌++◌}
-use mathlib.Core.Option.{none, some}
+use Rattle.std.proofs.Common.{None, Some}
 use Prim.Native.Nat.{ℕ, zero, suc, ◌+◌, ◌-◌, ◌/◌, ◌^◌, ◌≤◌, ◌<◌}
 use native.Mathlib.Nat.{zero-add, suc-add, add_comm, div-div-eq-div-mul}
 use native.Mathlib.Omega.{arith}
@@ -152,18 +152,18 @@ module _ (b : List Bool) where
       let d = dotted 5 (padded 7 (field_of (table_end b) 21 b)) in
       rw (length-append d (side 0x57 0x45 (get_or b (table_end b + 21) false) ∷ field_of (table_end b + 22) 7 b ∷ [])) (omega (arith, dotted_size 5 7 (field_of (table_end b) 21 b)))
 
-  pub latlon_none : length b < table_end b + 29 → read_latlon b ≡ none
+  pub latlon_none : length b < table_end b + 29 → read_latlon b ≡ None
   unfolding read_latlon pick
   latlon_none h = rw (lt-ltb (length b) (table_end b + 29) h)
 
-  pub latlon_some : table_end b + 29 ≤ length b → read_latlon b ≡ some (lat_text b ++ (lon_text b ++ read_text true (drop (table_end b + 29) b)))
+  pub latlon_some : table_end b + 29 ≤ length b → read_latlon b ≡ Some (lat_text b ++ (lon_text b ++ read_text true (drop (table_end b + 29) b)))
   unfolding read_latlon pick
   latlon_some h = rw (le-ltb (length b) (table_end b + 29) h)
 
-  pub timestamped_none : length b < 20 → read_timestamped b ≡ none
+  pub timestamped_none : length b < 20 → read_timestamped b ≡ None
   unfolding read_timestamped pick
   timestamped_none h = rw (lt-ltb (length b) 20 h)
 
-  pub timestamped_some : 20 ≤ length b → read_timestamped b ≡ (read_latlon (drop 20 b) >>= (λ t. some ((0x40 ∷ padded 6 (field_of 0 20 b) ++ 0x68 ∷ []) ++ t)))
+  pub timestamped_some : 20 ≤ length b → read_timestamped b ≡ (read_latlon (drop 20 b) >>= (λ t. Some ((0x40 ∷ padded 6 (field_of 0 20 b) ++ 0x68 ∷ []) ++ t)))
   unfolding read_timestamped pick
   timestamped_some h = rw (le-ltb (length b) 20 h)

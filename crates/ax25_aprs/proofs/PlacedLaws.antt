@@ -3,7 +3,7 @@
 use mathlib.Core.Path.{◌≡◌, refl, sym, ap, ap₂, ◌∙◌}
 use mathlib.Core.Bool.{Bool, true, false}
 use mathlib.Core.List.{List, [], ◌∷◌, ◌++◌, append_assoc}
-use mathlib.Core.Option.{some}
+use Rattle.std.proofs.Common.{Some}
 use Prim.Native.Nat.{ℕ, ◌+◌, ◌^◌, ◌≤◌, ◌<◌}
 use native.Mathlib.Omega.{arith}
 use lib.ListN.{length, get_or, take, drop, length-append, length-drop}
@@ -182,9 +182,9 @@ place_size x =
     let m = half_text 5 7 x.lon (side 0x57 0x45 (eqb x.west 1)) x.symbol in
     rw (length-append l m) (omega (arith, half_size 4 6 x.lat (side 0x4E 0x53 (eqb x.north 1)) (table_of x.listed x.table), half_size 5 7 x.lon (side 0x57 0x45 (eqb x.west 1)) x.symbol))
 
-pub latlon_found : (u : List Bool) (at : ℕ) (x : Place) → Has (drop at u) at x → read_latlon (drop at u) ≡ some (place_text x ++ read_text true (drop x.next u))
+pub latlon_found : (u : List Bool) (at : ℕ) (x : Place) → Has (drop at u) at x → read_latlon (drop at u) ≡ Some (place_text x ++ read_text true (drop x.next u))
 latlon_found u at x h =
     let b = drop at u in
     latlon_some b h.enough
-    ∙ ap some (sym (append_assoc (lat_text b) (lon_text b) (read_text true (drop (table_end b + 29) b))))
-    ∙ ap₂ (λ (t : List ℕ) (r : List Bool). some (t ++ read_text true r)) (sym (place_told b at x h)) (drop-drop (table_end b + 29) at u ∙ ap (λ (n : ℕ). drop n u) (sym h.next_is))
+    ∙ ap Some (sym (append_assoc (lat_text b) (lon_text b) (read_text true (drop (table_end b + 29) b))))
+    ∙ ap₂ (λ (t : List ℕ) (r : List Bool). Some (t ++ read_text true r)) (sym (place_told b at x h)) (drop-drop (table_end b + 29) at u ∙ ap (λ (n : ℕ). drop n u) (sym h.next_is))

@@ -3,7 +3,8 @@
 use mathlib.Core.Path.{◌≡◌, refl, sym, ap, ◌∙◌}
 use mathlib.Core.Bool.{Bool, true, false, and-false}
 use mathlib.Core.List.{List, [], ◌∷◌, ◌++◌, append_assoc}
-use mathlib.Core.Option.{Option, none, some, some-injective}
+use Rattle.std.proofs.Common.{Option, None, Some}
+use Rattle.std.proofs.lemmas.Option.{same_Some}
 use Prim.Native.Nat.{ℕ, zero, suc, ◌+◌, ◌*◌, ◌≤◌, ◌<◌}
 use native.Mathlib.Numerals.{add-one}
 use native.Mathlib.Omega.{arith}
@@ -119,13 +120,13 @@ module _ (s : List ℕ) where
 
 before_nil : (o : Option (List Bool)) → before [] o ≡ o
 unfolding before
-before_nil none = refl
-before_nil (some y) = refl
+before_nil None = refl
+before_nil (Some y) = refl
 
 before_before : (x y : List Bool) (o : Option (List Bool)) → before x (before y o) ≡ before (x ++ y) o
 unfolding before
-before_before x y none = refl
-before_before x y (some z) = ap some (sym (append_assoc x y z))
+before_before x y None = refl
+before_before x y (Some z) = ap Some (sym (append_assoc x y z))
 
 byte_step : (p : Bool) (c : ℕ) (s : List ℕ) → plain_at (c ∷ s) ≡ true → text_bits p (c ∷ s) ≡ before (bits_of 7 c) (text_bits p s)
 unfolding joined
@@ -147,7 +148,7 @@ run_step p (c ∷ s) =
 -- ---- one part
 
 module _ (p : Bool) (s : List ℕ) where
-  pub part_run : 0 < plain_len s → part_bits p s ≡ some (sevens (take (plain_len s) s))
+  pub part_run : 0 < plain_len s → part_bits p s ≡ Some (sevens (take (plain_len s) s))
   unfolding part_bits pick
   part_run h = rw (lt-ltb 0 (plain_len s) h)
 
@@ -179,11 +180,11 @@ module _ (p : Bool) (s : List ℕ) where
   pub part_le : 0 < length s → part_size p s ≤ length s
   part_le h = by_run (λ k. omega (arith, part_run_size k, run_le s)) (λ k. omega (arith, part_front_size k, size_le p s h))
 
-  pub part_bits_lem : (x : List Bool) → part_bits p s ≡ some x → length x ≤ 7 * part_size p s
+  pub part_bits_lem : (x : List Bool) → part_bits p s ≡ Some x → length x ≤ 7 * part_size p s
   part_bits_lem x e =
       by_run
       (λ k.
       let r = sevens (take (plain_len s) s) in
-      let q : r ≡ x = some-injective r x (sym (part_run k) ∙ e) in
+      let q : r ≡ x = same_Some r x (sym (part_run k) ∙ e) in
       omega (arith, part_run_size k, ap length q, length_sevens (take (plain_len s) s), length-take-le (plain_len s) s (run_le s)))
       (λ k. omega (arith, part_front_size k, front_size_lem p s x (sym (part_front k) ∙ e)))

@@ -3,7 +3,8 @@
 use mathlib.Core.Path.{◌≡◌, refl, sym, ap, ◌∙◌}
 use mathlib.Core.Bool.{Bool, true, false, ◌&&◌}
 use mathlib.Core.List.{List, [], ◌∷◌, ◌++◌}
-use mathlib.Core.Option.{Option, none, some, none-ne-some, some-injective}
+use Rattle.std.proofs.Common.{Option, None, Some}
+use Rattle.std.proofs.lemmas.Option.{none-some, same_Some}
 use Prim.Native.Nat.{ℕ, zero, suc, ◌+◌, ◌-◌, ◌*◌, ◌≤◌, ◌<◌}
 use native.Mathlib.Omega.{arith}
 use lib.ListN.{length, get_or, take, drop, length-append, length-take, length-drop, length-map}
@@ -51,43 +52,43 @@ size_le p s h =
     let q : length s ≡ length w + length (drop (length w) s) = ap length (starts_eq w s (word_at_lem s z).front) ∙ length-append w (drop (length w) s) in
     omega (arith, size_word p s e z)))
 
-altitude_size : (a : Option ℕ) (x : List Bool) → altitude_bits a ≡ some x → length x ≡ 21
+altitude_size : (a : Option ℕ) (x : List Bool) → altitude_bits a ≡ Some x → length x ≡ 21
 unfolding altitude_bits
-altitude_size none x e = absurd (none-ne-some x e)
-altitude_size (some a) x e =
-    rw (← some-injective (bits_of 7 1 ++ top_bits 14 a) x e, length-append (bits_of 7 1) (top_bits 14 a), length_bits 7 1, length_top 14 a)
+altitude_size None x e = absurd (none-some x e)
+altitude_size (Some a) x e =
+    rw (← same_Some (bits_of 7 1 ++ top_bits 14 a) x e, length-append (bits_of 7 1) (top_bits 14 a), length_bits 7 1, length_top 14 a)
 
-pub front_size_lem : (p : Bool) (s : List ℕ) (x : List Bool) → front_bits p s ≡ some x → length x ≤ 7 * front_size p s
+pub front_size_lem : (p : Bool) (s : List ℕ) (x : List Bool) → front_bits p s ≡ Some x → length x ≤ 7 * front_size p s
 front_size_lem p s x e =
     by_test (altitude_at p s)
     (λ a. omega (arith, size_altitude p s a, altitude_size (altitude (take 4 (drop 5 s))) x (sym (bits_altitude p s a) ∙ e)))
     (λ a.
     by_eq (word_at s) 0
     (λ z.
-    let q : top_bits 7 (get_or s 0 0) ≡ x = some-injective (top_bits 7 (get_or s 0 0)) x (sym (bits_byte p s z) ∙ e) in
+    let q : top_bits 7 (get_or s 0 0) ≡ x = same_Some (top_bits 7 (get_or s 0 0)) x (sym (bits_byte p s z) ∙ e) in
     omega (arith, size_byte p s z, length_top 7 (get_or s 0 0), ap length q))
     (λ z.
-    let q : bits_of 7 (word_at s) ≡ x = some-injective (bits_of 7 (word_at s)) x (sym (bits_word p s a z) ∙ e) in
+    let q : bits_of 7 (word_at s) ≡ x = same_Some (bits_of 7 (word_at s)) x (sym (bits_word p s a z) ∙ e) in
     omega (arith, size_pos p s, length_bits 7 (word_at s), ap length q)))
 
-joined_size : (o q : Option (List Bool)) (x : List Bool) (m n : ℕ) → joined o q ≡ some x
-    → ((a : List Bool) → o ≡ some a → length a ≤ m) → ((b : List Bool) → q ≡ some b → length b ≤ n) → length x ≤ m + n
+joined_size : (o q : Option (List Bool)) (x : List Bool) (m n : ℕ) → joined o q ≡ Some x
+    → ((a : List Bool) → o ≡ Some a → length a ≤ m) → ((b : List Bool) → q ≡ Some b → length b ≤ n) → length x ≤ m + n
 unfolding joined before
-joined_size none q x m n e f g = absurd (none-ne-some x e)
-joined_size (some a) none x m n e f g = absurd (none-ne-some x e)
-joined_size (some a) (some b) x m n e f g =
-    rw (← some-injective (a ++ b) x e) (omega (arith, length-append a b, f a refl, g b refl))
+joined_size None q x m n e f g = absurd (none-some x e)
+joined_size (Some a) None x m n e f g = absurd (none-some x e)
+joined_size (Some a) (Some b) x m n e f g =
+    rw (← same_Some (a ++ b) x e) (omega (arith, length-append a b, f a refl, g b refl))
 
-from_size : (p : Bool) (k : ℕ) (s : List ℕ) (x : List Bool) → text_from p k s ≡ some x → length x ≤ 7 * (length s - k)
+from_size : (p : Bool) (k : ℕ) (s : List ℕ) (x : List Bool) → text_from p k s ≡ Some x → length x ≤ 7 * (length s - k)
 unfolding text_from
-from_size p k [] x e = rw (← some-injective [] x e) (omega arith)
+from_size p k [] x e = rw (← same_Some [] x e) (omega arith)
 from_size p zero (c ∷ s) x e =
     let n = front_size p (c ∷ s) in
     let t = joined_size (front_bits p (c ∷ s)) (text_from p (n - 1) s) x (7 * n) (7 * (length s - (n - 1))) e (front_size_lem p (c ∷ s)) (from_size p (n - 1) s) in
     omega (arith, size_le p (c ∷ s) (omega arith))
 from_size p (suc k) (c ∷ s) x e = let t = from_size p k s x e in omega arith
 
-pub text_size : (p : Bool) (s : List ℕ) (b : List Bool) → text_bits p s ≡ some b → length b ≤ 7 * length s
+pub text_size : (p : Bool) (s : List ℕ) (b : List Bool) → text_bits p s ≡ Some b → length b ≤ 7 * length s
 unfolding text_bits
 text_size p s b e = let t = from_size p 0 s b e in omega arith
 
@@ -115,9 +116,9 @@ then_most m n (refused k) q f g = refused_most (m + n) k
 then_most m n (answer a) (refused k) f g = refused_most (m + n) k
 then_most m n (answer a) (answer c) f g = answer_most (m + n) (a ++ c) (omega (arith, length-append a c, f a refl, g c refl))
 
-pub or_most : (n k : ℕ) (o : Option (List Bool)) → ((b : List Bool) → o ≡ some b → length b ≤ n) → AtMost n (or_refused k o)
-or_most n k none f = refused_most n k
-or_most n k (some a) f = answer_most n a (f a refl)
+pub or_most : (n k : ℕ) (o : Option (List Bool)) → ((b : List Bool) → o ≡ Some b → length b ≤ n) → AtMost n (or_refused k o)
+or_most n k None f = refused_most n k
+or_most n k (Some a) f = answer_most n a (f a refl)
 
 text_most : (p : Bool) (s : List ℕ) → AtMost (7 * length s) (or_refused 5 (text_bits p s))
 text_most p s = or_most (7 * length s) 5 (text_bits p s) (text_size p s)

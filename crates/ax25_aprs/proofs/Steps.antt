@@ -3,7 +3,7 @@
 use mathlib.Core.Path.{◌≡◌, refl, ap}
 use mathlib.Core.Bool.{Bool}
 use mathlib.Core.List.{List, [], ◌∷◌}
-use mathlib.Core.Option.{Option, none, some}
+use Rattle.std.proofs.Common.{Option, None, Some}
 use Prim.Native.Nat.{ℕ, ◌+◌, ◌-◌, ◌*◌, ◌≤◌, ◌<◌}
 use native.Mathlib.Omega.{arith}
 use lib.ListN.{length, drop, length-drop}
@@ -22,35 +22,35 @@ use Rattle.ax25_aprs.proofs.PartLaws.{at_place, does, does_then, refused_joined}
 use Rattle.ax25_aprs.proofs.TextLaws.{text_nil}
 use Rattle.ax25_aprs.proofs.RunLaws.{part_step, part_pos, part_le, part_bits_lem}
 
-pub number_is_lem : (o : Option ℕ) (n : ℕ) → number_of o ≡ Is n → o ≡ some n
+pub number_is_lem : (o : Option ℕ) (n : ℕ) → number_of o ≡ Is n → o ≡ Some n
 unfolding number_of
-number_is_lem none n e = let z : ◌≡◌ {A = ℕ} 0 1 = cc in absurd (omega arith)
-number_is_lem (some m) n e = cc
+number_is_lem None n e = let z : ◌≡◌ {A = ℕ} 0 1 = cc in absurd (omega arith)
+number_is_lem (Some m) n e = cc
 
-pub number_not : (o : Option ℕ) → number_of o ≡ Not → o ≡ none
+pub number_not : (o : Option ℕ) → number_of o ≡ Not → o ≡ None
 unfolding number_of
-number_not none e = refl
-number_not (some m) e = let z : ◌≡◌ {A = ℕ} 0 1 = cc in absurd (omega arith)
+number_not None e = refl
+number_not (Some m) e = let z : ◌≡◌ {A = ℕ} 0 1 = cc in absurd (omega arith)
 
 -- a write that was done
-pub stepped : {b : List Bool} {at : ℕ} {x c : List Bool} {next : ℕ} (k : ℕ) → Wrote b at x c next → Stepped (some x) k b at c (Took k next)
+pub stepped : {b : List Bool} {at : ℕ} {x c : List Bool} {next : ℕ} (k : ℕ) → Wrote b at x c next → Stepped (Some x) k b at c (Took k next)
 stepped k h = (ap (Took k) h.next_is, at_place h)
 
 record Taken (o : Option (List Bool)) (k : ℕ) (b : List Bool) (at : ℕ) (c : List Bool) (size place : ℕ) : Type 0 where
   x : List Bool
-  is_some_holds : o ≡ some x
+  is_some_holds : o ≡ Some x
   size_is : size ≡ k
   done : Wrote b at x c place
 
 took : (o : Option (List Bool)) (k : ℕ) (b : List Bool) (at : ℕ) (c : List Bool) (size place : ℕ) → Stepped o k b at c (Took size place) → Taken o k b at c size place
-took none k b at c size place e = let z : ◌≡◌ {A = ℕ} 0 1 = cc in absurd (omega arith)
-took (some x) k b at c size place e =
+took None k b at c size place e = let z : ◌≡◌ {A = ℕ} 0 1 = cc in absurd (omega arith)
+took (Some x) k b at c size place e =
     let f : Took size place ≡ Took k (at + length x) = e.0 in
     record { x = x; is_some_holds = refl; size_is = cc; done = record { stored = e.1.stored; next_is = cc } }
 
-stuck : (o : Option (List Bool)) (k : ℕ) (b : List Bool) (at : ℕ) (c : List Bool) → Stepped o k b at c Stuck → o ≡ none
-stuck none k b at c e = refl
-stuck (some x) k b at c e =
+stuck : (o : Option (List Bool)) (k : ℕ) (b : List Bool) (at : ℕ) (c : List Bool) → Stepped o k b at c Stuck → o ≡ None
+stuck None k b at c e = refl
+stuck (Some x) k b at c e =
     let f : Stuck ≡ Took k (at + length x) = e.0 in
     let z : ◌≡◌ {A = ℕ} 0 1 = cc in
     absurd (omega arith)
@@ -66,7 +66,7 @@ module _ (p : Bool) (s : List ℕ) (i : ℕ) (h : i < length s) (b : List Bool) 
   some_byte : 0 < length (drop i s)
   some_byte = omega (arith, length-drop i s)
 
-  turn_of : (c : List Bool) (size place : ℕ) (x : List Bool) → part_bits p (drop i s) ≡ some x → size ≡ part_size p (drop i s) → Wrote b at x c place
+  turn_of : (c : List Bool) (size place : ℕ) (x : List Bool) → part_bits p (drop i s) ≡ Some x → size ≡ part_size p (drop i s) → Wrote b at x c place
       → Turn p s i b at c size place
   turn_of c size place x is_some_holds size_is done =
       let t = drop i s in

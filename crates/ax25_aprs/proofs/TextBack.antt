@@ -3,7 +3,7 @@
 use mathlib.Core.Path.{◌≡◌, refl, ap, ◌∙◌}
 use mathlib.Core.Bool.{Bool, true, false}
 use mathlib.Core.List.{List, [], ◌∷◌, ◌++◌, append_assoc, append-nil}
-use mathlib.Core.Option.{Option, some}
+use Rattle.std.proofs.Common.{Option, Some}
 use Prim.Native.Nat.{ℕ, zero, suc, ◌+◌, ◌^◌, ◌≤◌, ◌<◌}
 use native.Mathlib.Nat.{mod-eq_of_lt}
 use native.Mathlib.Omega.{arith}
@@ -32,13 +32,13 @@ Reads p x s = (r : List Bool) → read_text p (x ++ r) ≡ s ++ read_text p r
 -- the text s has bits that are read as s
 pub record Back (p : Bool) (s : List ℕ) : Type 0 where
   pub coded : List Bool
-  pub is_coded : text_bits p s ≡ some coded
+  pub is_coded : text_bits p s ≡ Some coded
   pub is_read : (r : List Bool) → read_text p (coded ++ r) ≡ s ++ read_text p r
 
 -- so has what stands at its front
 record Front (p : Bool) (s : List ℕ) : Type 0 where
   coded : List Bool
-  is_coded : front_bits p s ≡ some coded
+  is_coded : front_bits p s ≡ Some coded
   is_read : Reads p coded (take (front_size p s) s)
 
 -- a code that takes no further bits
@@ -73,7 +73,7 @@ module _ (p : Bool) (s : List ℕ) (some_byte : 0 < length s) (printable : Print
       let b = printable 0 some_byte in
       record {
         coded = bits_of 7 c;
-        is_coded = bits_byte p s z ∙ ap {B = Option (List Bool)} some (top_bits_lem 7 c (omega arith) (omega arith));
+        is_coded = bits_byte p s z ∙ ap {B = Option (List Bool)} Some (top_bits_lem 7 c (omega arith) (omega arith));
         is_read = rw (size_byte p s z, take-suc s 0 0 some_byte) (reads_code p c (c ∷ []) (omega arith) (λ r. code_self p c r (omega arith)) (span_other p c (λ e. omega arith)));
       }
 

@@ -3,7 +3,7 @@
 use mathlib.Core.Path.{◌≡◌, refl, ap, ◌∙◌}
 use mathlib.Core.Bool.{Bool, true, false}
 use mathlib.Core.List.{List, [], ◌∷◌, ◌++◌}
-use mathlib.Core.Option.{some}
+use Rattle.std.proofs.Common.{Some}
 use Prim.Native.Nat.{ℕ, zero, suc, ◌+◌, ◌-◌, ◌*◌, ◌/◌, ◌%◌, ◌^◌, ◌≤◌, ◌<◌}
 use native.Mathlib.Nat.{mod-eq_of_lt, not-suc-le-zero}
 use native.Mathlib.Omega.{arith}
@@ -64,7 +64,7 @@ all_digits_lem (c ∷ s) h =
     let f = digits_head c s h in
     rw (between_yes 48 57 c f.0 (omega arith), all_digits_lem s (digits_tail c s h))
 
-unsigned_digits : (s : List ℕ) → 0 < length s → Digits s → unsigned s ≡ some (val_of s)
+unsigned_digits : (s : List ℕ) → 0 < length s → Digits s → unsigned s ≡ Some (val_of s)
 unfolding unsigned pick
 unsigned_digits [] l h = absurd (not-suc-le-zero l)
 unsigned_digits (c ∷ s) l h = rw (all_digits_lem (c ∷ s) h)
@@ -82,7 +82,7 @@ no_blank : (c : ℕ) → 32 < c → blank c ≡ false
 unfolding blank
 no_blank c h = rw (between_above 9 13 c (omega arith) (omega arith), ne_eqb c 32 (λ e. omega arith))
 
-pub altitude_digits : (s : List ℕ) → 0 < length s → Digits s → altitude s ≡ some (val_of s)
+pub altitude_digits : (s : List ℕ) → 0 < length s → Digits s → altitude s ≡ Some (val_of s)
 unfolding altitude
 altitude_digits s l h =
     rw (trim_solid blank blank_32 s (λ i k. no_blank (get_or s i 0) (omega (arith, h i k))), no_plus_lem s h) (unsigned_digits s l h)
@@ -111,7 +111,7 @@ module _ (p : Bool) (s : List ℕ) where
   unfolding front_size pick
   size_altitude e = rw e
 
-  pub bits_byte : word_at s ≡ 0 → front_bits p s ≡ some (top_bits 7 (get_or s 0 0))
+  pub bits_byte : word_at s ≡ 0 → front_bits p s ≡ Some (top_bits 7 (get_or s 0 0))
   unfolding front_bits pick
   bits_byte e = rw (altitude_other p s (λ z. omega arith), eq-eqb (word_at s) 0 e)
 
@@ -119,7 +119,7 @@ module _ (p : Bool) (s : List ℕ) where
   unfolding front_size pick
   size_byte e = rw (altitude_other p s (λ z. omega arith), eq-eqb (word_at s) 0 e)
 
-  pub bits_word : altitude_at p s ≡ false → (word_at s ≡ 0 → ⊥) → front_bits p s ≡ some (bits_of 7 (word_at s))
+  pub bits_word : altitude_at p s ≡ false → (word_at s ≡ 0 → ⊥) → front_bits p s ≡ Some (bits_of 7 (word_at s))
   unfolding front_bits pick
   bits_word e h = rw (e, ne_eqb (word_at s) 0 h)
 
@@ -145,7 +145,7 @@ text_skip p zero s = refl
 text_skip p (suc k) [] = refl
 text_skip p (suc k) (c ∷ s) = text_skip p k s
 
-pub text_nil : (p : Bool) → text_bits p [] ≡ some []
+pub text_nil : (p : Bool) → text_bits p [] ≡ Some []
 unfolding text_bits text_from
 text_nil p = refl
 

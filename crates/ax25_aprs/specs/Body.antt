@@ -1,7 +1,7 @@
 -- `aprs_encode` and `aprs_decode`: text, position, position with a time, message.
 -- Assumes nothing.
 use Rattle.std.specs.Prelude.{Bool, false, List, [], ◌∷◌, ◌++◌, map, ℕ, length, take, drop, ltb, eqb}
-use Rattle.std.proofs.Math.Option.{Option, none, some}
+use Rattle.std.specs.Prelude.{Option, None, Some}
 use Rattle.laws.specs.Pick.{pick, ◌>>=◌}
 use Rattle.laws.specs.Text.{upper, trim, filled}
 use Rattle.bits.specs.Val.{val_of}
@@ -20,10 +20,10 @@ timestamped_bits s = answer (top_bits 20 (val_of (take 6 s))) then latlon_bits (
 
 unfoldable pub read_timestamped : List Bool → Option (List ℕ)
 read_timestamped b =
-    pick (ltb (length b) 20) none
+    pick (ltb (length b) 20) None
     (do
       t ← read_latlon (drop 20 b)
-      some ((0x40 ∷ padded 6 (field_of 0 20 b) ++ 0x68 ∷ []) ++ t))
+      Some ((0x40 ∷ padded 6 (field_of 0 20 b) ++ 0x68 ∷ []) ++ t))
 
 -- a call from a text: trimmed and upper-cased
 unfoldable pub call_of : List ℕ → List ℕ
@@ -36,7 +36,7 @@ message_bits l s = or_refused 4 (token_bits l (call_of (take 9 s))) then or_refu
 unfoldable pub read_message : Bool → ℕ → List Bool → Option (List ℕ)
 read_message mended l b = do
   (c, r) ← read_token mended l b
-  some (0x3A ∷ filled 9 c ++ 0x3A ∷ read_text false r)
+  Some (0x3A ∷ filled 9 c ++ 0x3A ∷ read_text false r)
 
 -- a body behind its type byte (Text: from its first byte), by type; l is the call length
 unfoldable pub body_bits : ℕ → ℕ → List ℕ → Outcome (List Bool)
@@ -48,10 +48,10 @@ body_bits typ l s =
 
 unfoldable pub read_body : Bool → ℕ → ℕ → List Bool → Option (List ℕ)
 read_body mended typ l b =
-    pick (eqb typ Text) (some (read_text false b))
+    pick (eqb typ Text) (Some (read_text false b))
     (pick (eqb typ Position)
     (do
       t ← read_latlon b
-      some (0x21 ∷ t))
+      Some (0x21 ∷ t))
     (pick (eqb typ TimestampedPosition) (read_timestamped b)
     (read_message mended l b)))

@@ -1,7 +1,7 @@
 -- Bits of a part of a frame, or the refusal that ends the coding.
 -- Assumes nothing.
 use Rattle.std.specs.Prelude.{Bool, List, ◌++◌, ℕ}
-use Rattle.std.proofs.Math.Option.{Option, none, some}
+use Rattle.std.specs.Prelude.{Option, None, Some}
 use Rattle.refusals.specs.Outcome.{Outcome, refused, answer}
 
 infixr 5 ◌then◌
@@ -13,5 +13,5 @@ abbrev pub ◌then◌ : Outcome (List Bool) → Outcome (List Bool) → Outcome 
 
 -- bits that are missing are refused
 abbrev pub or_refused : ℕ → Option (List Bool) → Outcome (List Bool)
-or_refused n none = refused n
-or_refused n (some b) = answer b
+or_refused n None = refused n
+or_refused n (Some b) = answer b

@@ -1,7 +1,7 @@
 -- `latlon_encode` and `latlon_decode`: a position behind its type byte.
 -- Assumes nothing.
 use Rattle.std.specs.Prelude.{Bool, true, false, List, [], ◌∷◌, ◌++◌, ℕ, ◌+◌, length, get_or, take, drop, eqb, ltb}
-use Rattle.std.proofs.Math.Option.{Option, none, some}
+use Rattle.std.specs.Prelude.{Option, None, Some}
 use Rattle.laws.specs.Bits.{bits_of, value_of}
 use Rattle.laws.specs.Pick.{pick}
 use Rattle.laws.specs.Text.{ascii}
@@ -84,4 +84,4 @@ lon_text b =
     ++ (side 0x57 0x45 (get_or b (table_end b + 21) false) ∷ field_of (table_end b + 22) 7 b ∷ [])
 
 unfoldable pub read_latlon : List Bool → Option (List ℕ)
-read_latlon b = pick (ltb (length b) (table_end b + 29)) none (some (lat_text b ++ (lon_text b ++ read_text true (drop (table_end b + 29) b))))
+read_latlon b = pick (ltb (length b) (table_end b + 29)) None (Some (lat_text b ++ (lon_text b ++ read_text true (drop (table_end b + 29) b))))

@@ -1,7 +1,7 @@
 -- What coders and readers of parts answer and leave.
 -- Assumes nothing.
 use Rattle.std.specs.Prelude.{◌≡◌, Bool, List, ℕ, zero, suc, ◌+◌, ◌≤◌, length, take, drop}
-use Rattle.std.proofs.Math.Option.{Option, none, some}
+use Rattle.std.specs.Prelude.{Option, None, Some}
 use Rattle.laws.specs.Wrote.{Wrote}
 use Rattle.bits.specs.declared.read.Got.{Got}
 use Rattle.bits.specs.declared.read.Got.TheVariants as got
@@ -18,13 +18,13 @@ use Rattle.ax25_aprs.specs.declared.part.Part.TheVariants as part
 
 -- a number, if there is one
 unfoldable pub number_of : Option ℕ → Number
-number_of none = Not
-number_of (some n) = Is n
+number_of None = Not
+number_of (Some n) = Is n
 
 -- k bytes taken and x written at a position of the bits b, which leaves c; without bits nothing is said of c
 abbrev pub Stepped : Option (List Bool) → ℕ → List Bool → ℕ → List Bool → Step → Type 0
-Stepped none k b at c r = r ≡ Stuck
-Stepped (some x) k b at c r = (r ≡ Took k (at + length x)) × Wrote b at x c (at + length x)
+Stepped None k b at c r = r ≡ Stuck
+Stepped (Some x) k b at c r = (r ≡ Took k (at + length x)) × Wrote b at x c (at + length x)
 
 -- bits written at a position of the bits b, which leaves c, and the next position; on a refusal nothing is said of c
 abbrev pub Does : Outcome (List Bool) → List Bool → ℕ → List Bool → Part → Type 0
@@ -33,8 +33,8 @@ Does (answer x) b at c r = (r ≡ part.Next (at + length x)) × Wrote b at x c (
 
 -- bytes written at a place of out, which leaves e, and the next place; where there is nothing to read, nothing is said of e
 abbrev pub Reads : Option (List ℕ) → List ℕ → ℕ → List ℕ → Got → Type 0
-Reads none out to e r = r ≡ got.Nothing
-Reads (some t) out to e r = (r ≡ got.Next (to + length t)) × Wrote out to t e (to + length t)
+Reads None out to e r = r ≡ got.Nothing
+Reads (Some t) out to e r = (r ≡ got.Next (to + length t)) × Wrote out to t e (to + length t)
 
 -- the field of d that ends at a place; the next place is 0 where no stop byte was found
 unfoldable pub span_in : List ℕ → ℕ → ℕ → Field

@@ -1,7 +1,7 @@
 -- `text_encode` and `text_decode`: position text and messages, seven bits a byte or a word, and in position types fourteen for an altitude.
 -- Assumes nothing.
 use Rattle.std.specs.Prelude.{Bool, true, ◌&&◌, List, [], ◌∷◌, ◌++◌, ℕ, zero, suc, ◌+◌, ◌-◌, ◌^◌, length, get_or, take, drop, eqb, ltb, leb}
-use Rattle.std.proofs.Math.Option.{Option, none, some}
+use Rattle.std.specs.Prelude.{Option, None, Some}
 use Rattle.laws.specs.Bits.{bits_of, value_of}
 use Rattle.laws.specs.Digits.{digits}
 use Rattle.laws.specs.Pick.{pick}
@@ -15,13 +15,13 @@ use Rattle.ax25_aprs.specs.Words.{word, word_at}
 
 -- x before what follows, if that is there
 unfoldable pub before : List Bool → Option (List Bool) → Option (List Bool)
-before x none = none
-before x (some y) = some (x ++ y)
+before x None = None
+before x (Some y) = Some (x ++ y)
 
 -- both, one after the other, if both are there
 unfoldable pub joined : Option (List Bool) → Option (List Bool) → Option (List Bool)
-joined none y = none
-joined (some x) y = before x y
+joined None y = None
+joined (Some x) y = before x y
 
 -- one or more digits, and nothing else, as a number
 unfoldable pub all_digits : List ℕ → Bool
@@ -29,8 +29,8 @@ all_digits [] = true
 all_digits (c ∷ cs) = is_digit c && all_digits cs
 
 unfoldable pub unsigned : List ℕ → Option ℕ
-unsigned [] = none
-unsigned (c ∷ cs) = pick (all_digits (c ∷ cs)) (some (val_of (c ∷ cs))) none
+unsigned [] = None
+unsigned (c ∷ cs) = pick (all_digits (c ∷ cs)) (Some (val_of (c ∷ cs))) None
 
 -- without a plus sign at the front
 unfoldable pub no_plus : List ℕ → List ℕ
@@ -42,8 +42,8 @@ unfoldable pub altitude : List ℕ → Option ℕ
 altitude s = unsigned (no_plus (trim blank s))
 
 unfoldable pub altitude_bits : Option ℕ → Option (List Bool)
-altitude_bits none = none
-altitude_bits (some a) = some (bits_of 7 1 ++ top_bits 14 a)
+altitude_bits None = None
+altitude_bits (Some a) = Some (bits_of 7 1 ++ top_bits 14 a)
 
 -- an altitude at the front: in a position type, the first word with four more bytes
 unfoldable pub altitude_at : Bool → List ℕ → Bool
@@ -54,14 +54,14 @@ unfoldable pub front_bits : Bool → List ℕ → Option (List Bool)
 front_bits p s =
     pick (altitude_at p s)
     (altitude_bits (altitude (take 4 (drop 5 s))))
-    (pick (eqb (word_at s) 0) (some (top_bits 7 (get_or s 0 0))) (some (bits_of 7 (word_at s))))
+    (pick (eqb (word_at s) 0) (Some (top_bits 7 (get_or s 0 0))) (Some (bits_of 7 (word_at s))))
 
 unfoldable pub front_size : Bool → List ℕ → ℕ
 front_size p s = pick (altitude_at p s) 9 (pick (eqb (word_at s) 0) 1 (length (word (word_at s))))
 
 -- the text behind its first k bytes
 unfoldable pub text_from : Bool → ℕ → List ℕ → Option (List Bool)
-text_from p k [] = some []
+text_from p k [] = Some []
 text_from p zero (c ∷ cs) = joined (front_bits p (c ∷ cs)) (text_from p (front_size p (c ∷ cs) - 1) cs)
 text_from p (suc k) (c ∷ cs) = text_from p k cs
 

@@ -1,7 +1,7 @@
 -- The third-party body: three calls and an inner type.
 -- Assumes nothing.
 use Rattle.std.specs.Prelude.{Bool, ◌&&◌, List, [], ◌∷◌, ◌++◌, ℕ, zero, suc, drop, eqb}
-use Rattle.std.proofs.Math.Option.{Option, some}
+use Rattle.std.specs.Prelude.{Option, Some}
 use Rattle.laws.specs.Bits.{bits_of}
 use Rattle.laws.specs.Pick.{pick, ◌>>=◌}
 use Rattle.laws.specs.Text.{ascii, is_digit}
@@ -91,4 +91,4 @@ module _ (mended : Bool) (l : ℕ) where
     (s₃, r₃) ← read_token mended l r₂
     (k, r₄) ← take_bits 2 r₃
     d ← read_body mended (inner_type k) l r₄
-    some (ascii "}" ++ (s₁ ++ (ascii ">" ++ (s₂ ++ (ascii ",TCPIP," ++ (s₃ ++ (ascii "*:" ++ d)))))))
+    Some (ascii "}" ++ (s₁ ++ (ascii ">" ++ (s₂ ++ (ascii ",TCPIP," ++ (s₃ ++ (ascii "*:" ++ d)))))))

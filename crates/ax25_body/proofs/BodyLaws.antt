@@ -4,7 +4,7 @@ use mathlib.Core.Path.{◌≡◌, refl, ap, ◌∙◌}
 use mathlib.Core.Logic.{inl, inr}
 use mathlib.Core.Bool.{Bool, false}
 use mathlib.Core.List.{List, [], ◌∷◌, ◌++◌, append-nil}
-use mathlib.Core.Option.{none, some}
+use Rattle.std.proofs.Common.{None, Some}
 use Prim.Native.Nat.{ℕ, zero, suc, ◌-◌, ◌≤◌}
 use native.Mathlib.Omega.{arith}
 use lib.ListN.{length, take, drop, replicate, length-replicate}
@@ -44,12 +44,12 @@ filled_short m n s e =
 -- ---- a message
 
 module _ (mended : Bool) (l : ℕ) (b : List Bool) where
-  pub message_none : read_token mended l b ≡ none → read_message mended l b ≡ none
+  pub message_none : read_token mended l b ≡ None → read_message mended l b ≡ None
   unfolding read_message
   message_none e = rw e
 
-  pub message_some : (c : List ℕ) (r : List Bool) → read_token mended l b ≡ some (c, r)
-      → read_message mended l b ≡ some ((0x3A ∷ []) ++ (filled 9 c ++ ((0x3A ∷ []) ++ read_text false r)))
+  pub message_some : (c : List ℕ) (r : List Bool) → read_token mended l b ≡ Some (c, r)
+      → read_message mended l b ≡ Some ((0x3A ∷ []) ++ (filled 9 c ++ ((0x3A ∷ []) ++ read_text false r)))
   unfolding read_message
   message_some c r e = rw e
 
@@ -73,7 +73,7 @@ other_number kind.ThirdParty h = (λ f. omega (arith, f), λ f. omega (arith, f)
 -- ---- a body by its type
 
 module _ (mended : Bool) (t : AprsType) (l : ℕ) (b : List Bool) where
-  pub read_text_lem : t ≡ kind.Text → read_body mended (type_number t) l b ≡ some (read_text false b)
+  pub read_text_lem : t ≡ kind.Text → read_body mended (type_number t) l b ≡ Some (read_text false b)
   unfolding read_body pick
   read_text_lem e = rw e
 

@@ -3,7 +3,7 @@
 use mathlib.Core.Path.{◌≡◌, refl, ap, ◌∙◌}
 use mathlib.Core.Bool.{Bool, false}
 use mathlib.Core.List.{List}
-use mathlib.Core.Option.{Option, none}
+use Rattle.std.proofs.Common.{Option, None}
 use Prim.Native.Nat.{ℕ, ◌+◌, ◌-◌, ◌≤◌, min}
 use native.Mathlib.Omega.{arith}
 use lib.ListN.{length, take, drop, drop_of_length-le}
@@ -54,7 +54,7 @@ module _ (k : ℕ) (o : Option (List Bool)) (q : Outcome (List Bool)) (b : List 
   pub does_gave : (c : List Bool) (p : ℕ) (r : Part) → Gave o b at c p → Does q c p d r → Does (or_refused k o then q) b at d r
   does_gave c p r g h = rw g.is (does_then g.wrote q d r h)
 
-  pub does_bad : o ≡ none → Does (or_refused k o then q) b at d (Refused k)
+  pub does_bad : o ≡ None → Does (or_refused k o then q) b at d (Refused k)
   does_bad e = rw e refl
 
 -- a call from at most ten bytes takes at most 64 bits

@@ -3,7 +3,7 @@
 use mathlib.Core.Path.{◌≡◌, refl, sym, ap, subst, ◌∙◌}
 use mathlib.Core.Bool.{Bool, true, false, ◌&&◌}
 use mathlib.Core.List.{List, [], ◌∷◌}
-use mathlib.Core.Option.{none}
+use Rattle.std.proofs.Common.{None}
 use Prim.Native.Nat.{ℕ, zero, suc, ◌+◌, ◌-◌, ◌≤◌, ◌<◌}
 use native.Mathlib.Omega.{arith}
 use lib.ListN.{length, get_or, take, drop}
@@ -104,7 +104,7 @@ module _ (l : ℕ) (f : Field) (d : List ℕ) (b : List Bool) (at : ℕ) (c : Li
   unfolding Codes call_field last_field
   codes_short e = record { call = λ x next. rw e; last = λ x. rw e }
 
-  pub codes_bad : (end i : ℕ) → f ≡ span_in d end i → token_bits l (call_of (take end d)) ≡ none → Codes l f d b at c (Refused 4)
+  pub codes_bad : (end i : ℕ) → f ≡ span_in d end i → token_bits l (call_of (take end d)) ≡ None → Codes l f d b at c (Refused 4)
   unfolding Codes call_part
   codes_bad end i e h =
       let n : call_part l (take end d) ≡ refused 4 = ap (or_refused 4) h in

@@ -3,7 +3,7 @@
 use mathlib.Core.Path.{◌≡◌, refl, ap, subst}
 use mathlib.Core.Bool.{Bool}
 use mathlib.Core.List.{List, ◌++◌, append_assoc}
-use mathlib.Core.Option.{Option, none, some}
+use Rattle.std.proofs.Common.{Option, None, Some}
 use Prim.Native.Nat.{ℕ, ◌+◌, ◌≤◌}
 use native.Mathlib.Omega.{arith}
 use lib.ListN.{length, length-append}
@@ -27,7 +27,7 @@ module _ (o : Option (List ℕ × List Bool)) (u : List Bool) (x out : List ℕ)
   unfolding Passes
   passed r p n q h = subst (λ (t : Pass). Passes o u x out to e t) q h
 
-  pub passed_none : (r : Pass) → r ≡ Nothing → Passes o u x out to e r → o ≡ none
+  pub passed_none : (r : Pass) → r ≡ Nothing → Passes o u x out to e r → o ≡ None
   unfolding Passes
   passed_none r q h = subst (λ (t : Pass). Passes o u x out to e t) q h
 
@@ -35,7 +35,7 @@ module _ (o : Option (List ℕ × List Bool)) (u : List Bool) (x out : List ℕ)
   unfolding Passes
   passes p n h = h
 
-  pub passes_none : o ≡ none → Passes o u x out to e Nothing
+  pub passes_none : o ≡ None → Passes o u x out to e Nothing
   unfolding Passes
   passes_none h = h
 
@@ -68,42 +68,42 @@ flat : (a s b t c v x : List ℕ) → a ++ (s ++ (b ++ (t ++ (c ++ (v ++ x))))) 
 flat a s b t c v x = simp append_assoc
 
 module _ (mended : Bool) (l : ℕ) (b : List Bool) where
-  pub inner_none : take_bits 2 b ≡ none → read_inner mended l b ≡ none
+  pub inner_none : take_bits 2 b ≡ None → read_inner mended l b ≡ None
   unfolding read_inner
   inner_none e = rw e
 
-  pub inner_some : (k : ℕ) (r : List Bool) → take_bits 2 b ≡ some (k, r)
-      → read_inner mended l b ≡ (read_body mended (inner_type k) l r >>= (λ d. some (ascii "*:" ++ d)))
+  pub inner_some : (k : ℕ) (r : List Bool) → take_bits 2 b ≡ Some (k, r)
+      → read_inner mended l b ≡ (read_body mended (inner_type k) l r >>= (λ d. Some (ascii "*:" ++ d)))
   unfolding read_inner
   inner_some k r e = rw e
 
-  pub third_first : read_token mended l b ≡ none → read_third mended l b ≡ none
+  pub third_first : read_token mended l b ≡ None → read_third mended l b ≡ None
   unfolding read_third
   third_first e = rw e
 
-  module _ (s₁ : List ℕ) (r₁ : List Bool) (e₁ : read_token mended l b ≡ some (s₁, r₁)) where
-    pub third_second : read_token mended l r₁ ≡ none → read_third mended l b ≡ none
+  module _ (s₁ : List ℕ) (r₁ : List Bool) (e₁ : read_token mended l b ≡ Some (s₁, r₁)) where
+    pub third_second : read_token mended l r₁ ≡ None → read_third mended l b ≡ None
     unfolding read_third
     third_second e = rw (e₁, e)
 
-    module _ (s₂ : List ℕ) (r₂ : List Bool) (e₂ : read_token mended l r₁ ≡ some (s₂, r₂)) where
-      pub third_last : read_token mended l r₂ ≡ none → read_third mended l b ≡ none
+    module _ (s₂ : List ℕ) (r₂ : List Bool) (e₂ : read_token mended l r₁ ≡ Some (s₂, r₂)) where
+      pub third_last : read_token mended l r₂ ≡ None → read_third mended l b ≡ None
       unfolding read_third
       third_last e = rw (e₁, e₂, e)
 
       joined : (s₃ : List ℕ) (o : Option (List ℕ))
-          → (o >>= (λ d. some (ascii "}" ++ (s₁ ++ (ascii ">" ++ (s₂ ++ (ascii ",TCPIP," ++ (s₃ ++ (ascii "*:" ++ d)))))))))
-          ≡ ((o >>= (λ d. some (ascii "*:" ++ d))) >>= (λ d. some (((ascii "}" ++ s₁) ++ ((ascii ">" ++ s₂) ++ (ascii ",TCPIP," ++ s₃))) ++ d)))
-      joined s₃ none = refl
-      joined s₃ (some d) = ap some (flat (ascii "}") s₁ (ascii ">") s₂ (ascii ",TCPIP,") s₃ (ascii "*:" ++ d))
+          → (o >>= (λ d. Some (ascii "}" ++ (s₁ ++ (ascii ">" ++ (s₂ ++ (ascii ",TCPIP," ++ (s₃ ++ (ascii "*:" ++ d)))))))))
+          ≡ ((o >>= (λ d. Some (ascii "*:" ++ d))) >>= (λ d. Some (((ascii "}" ++ s₁) ++ ((ascii ">" ++ s₂) ++ (ascii ",TCPIP," ++ s₃))) ++ d)))
+      joined s₃ None = refl
+      joined s₃ (Some d) = ap Some (flat (ascii "}") s₁ (ascii ">") s₂ (ascii ",TCPIP,") s₃ (ascii "*:" ++ d))
 
       inner_joined : (s₃ : List ℕ) (o : Option (ℕ × List Bool))
-          → (o >>= (λ p. read_body mended (inner_type p.0) l p.1 >>= (λ d. some (ascii "}" ++ (s₁ ++ (ascii ">" ++ (s₂ ++ (ascii ",TCPIP," ++ (s₃ ++ (ascii "*:" ++ d))))))))))
-          ≡ ((o >>= (λ p. read_body mended (inner_type p.0) l p.1 >>= (λ d. some (ascii "*:" ++ d)))) >>= (λ d. some (((ascii "}" ++ s₁) ++ ((ascii ">" ++ s₂) ++ (ascii ",TCPIP," ++ s₃))) ++ d)))
-      inner_joined s₃ none = refl
-      inner_joined s₃ (some p) = joined s₃ (read_body mended (inner_type p.0) l p.1)
+          → (o >>= (λ p. read_body mended (inner_type p.0) l p.1 >>= (λ d. Some (ascii "}" ++ (s₁ ++ (ascii ">" ++ (s₂ ++ (ascii ",TCPIP," ++ (s₃ ++ (ascii "*:" ++ d))))))))))
+          ≡ ((o >>= (λ p. read_body mended (inner_type p.0) l p.1 >>= (λ d. Some (ascii "*:" ++ d)))) >>= (λ d. Some (((ascii "}" ++ s₁) ++ ((ascii ">" ++ s₂) ++ (ascii ",TCPIP," ++ s₃))) ++ d)))
+      inner_joined s₃ None = refl
+      inner_joined s₃ (Some p) = joined s₃ (read_body mended (inner_type p.0) l p.1)
 
-      pub third_all : (s₃ : List ℕ) (r₃ : List Bool) → read_token mended l r₂ ≡ some (s₃, r₃)
-          → read_third mended l b ≡ (read_inner mended l r₃ >>= (λ d. some (((ascii "}" ++ s₁) ++ ((ascii ">" ++ s₂) ++ (ascii ",TCPIP," ++ s₃))) ++ d)))
+      pub third_all : (s₃ : List ℕ) (r₃ : List Bool) → read_token mended l r₂ ≡ Some (s₃, r₃)
+          → read_third mended l b ≡ (read_inner mended l r₃ >>= (λ d. Some (((ascii "}" ++ s₁) ++ ((ascii ">" ++ s₂) ++ (ascii ",TCPIP," ++ s₃))) ++ d)))
       unfolding read_third read_inner
       third_all s₃ r₃ e₃ = rw (e₁, e₂, e₃) (inner_joined s₃ (take_bits 2 r₃))

@@ -1,7 +1,7 @@
 -- What the answers of a coder and of a reader of a call stand for.
 -- Assumes nothing.
 use Rattle.std.specs.Prelude.{◌≡◌, Bool, List, ◌++◌, ℕ, ◌≤◌, length, take, drop}
-use Rattle.std.proofs.Math.Option.{Option, none, some}
+use Rattle.std.specs.Prelude.{Option, None, Some}
 use Rattle.laws.specs.Wrote.{Wrote}
 use Rattle.refusals.specs.Outcome.{Outcome, refused, answer}
 use Rattle.ax25_aprs.specs.Put.{span_in}
@@ -34,11 +34,11 @@ Codes l f d b at c (piece.Refused n) = Uncoded l f n
 -- a call was read, which leaves the bits u from p on; x and its text were written at a place of out, which leaves e
 pub record Passed (o : Option (List ℕ × List Bool)) (u : List Bool) (x out : List ℕ) (to : ℕ) (e : List ℕ) (p next : ℕ) : Type 0 where
   pub text : List ℕ
-  pub is : o ≡ some (text, drop p u)
+  pub is : o ≡ Some (text, drop p u)
   pub short : length text ≤ 10
   pub wrote : Wrote out to (x ++ text) e next
 
 -- where there is no call, nothing is said of e
 unfoldable pub Passes : Option (List ℕ × List Bool) → List Bool → List ℕ → List ℕ → ℕ → List ℕ → Pass → Type 0
 Passes o u x out to e (Next p next) = Passed o u x out to e p next
-Passes o u x out to e Nothing = o ≡ none
+Passes o u x out to e Nothing = o ≡ None

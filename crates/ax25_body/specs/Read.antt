@@ -1,7 +1,7 @@
 -- Parts of a coding and of a reading that have a function of their own.
 -- Assumes nothing.
 use Rattle.std.specs.Prelude.{Bool, ◌&&◌, List, ◌∷◌, ◌++◌, ℕ, get_or, drop, eqb}
-use Rattle.std.proofs.Math.Option.{Option, some}
+use Rattle.std.specs.Prelude.{Option, Some}
 use Rattle.laws.specs.Pick.{pick, ◌>>=◌}
 use Rattle.laws.specs.Text.{ascii, is_digit}
 use Rattle.bits.specs.Read.{take_bits}
@@ -31,11 +31,11 @@ second_bits l d = call_field l (collect_of 0x2C 10 d) d (λ f. path_field l (col
 unfoldable pub read_position : List Bool → Option (List ℕ)
 read_position b = do
   t ← read_latlon b
-  some (0x21 ∷ t)
+  Some (0x21 ∷ t)
 
 -- the end of a third-party body's head, and the inner body behind its type in two bits
 unfoldable pub read_inner : Bool → ℕ → List Bool → Option (List ℕ)
 read_inner mended l b = do
   (k, r) ← take_bits 2 b
   d ← read_body mended (inner_type k) l r
-  some (ascii "*:" ++ d)
+  Some (ascii "*:" ++ d)

@@ -3,7 +3,7 @@
 use mathlib.Core.Path.{◌≡◌, refl, sym, ap, subst}
 use mathlib.Core.Bool.{Bool, false}
 use mathlib.Core.List.{List, [], ◌∷◌, ◌++◌, append_assoc}
-use mathlib.Core.Option.{Option, none, some}
+use Rattle.std.proofs.Common.{Option, None, Some}
 use Prim.Native.Nat.{ℕ, ◌+◌, ◌-◌, ◌/◌, ◌≤◌}
 use native.Mathlib.Omega.{arith}
 use lib.ListN.{length, drop, length-drop}
@@ -42,7 +42,7 @@ module _ (mended : Bool) (l : ℕ) (b : List Bool) (p : ℕ) where
       let z : length b - length (drop p b) ≡ p = omega (arith, h, length-drop p b) in
       rw e (ap (text7_of b) z)
 
-  pub info_binary : (t : AprsType) → t ≡ kind.Binary → read_info mended l (type_number t) b (drop p b) ≡ some (bytes_in (drop p b))
+  pub info_binary : (t : AprsType) → t ≡ kind.Binary → read_info mended l (type_number t) b (drop p b) ≡ Some (bytes_in (drop p b))
   unfolding read_info pick
   info_binary t e = rw e
 
@@ -61,8 +61,8 @@ module _ (mended : Bool) (l : ℕ) (b : List Bool) (p : ℕ) where
 
 pub text7_reads : (o : Option (List ℕ)) (out : List ℕ) (to : ℕ) (e : List ℕ) (r : Got) → r ≡ text7_next to o → e ≡ text7_left out to o → Reads o out to e r
 unfolding text7_next text7_left
-text7_reads none out to e r u v = u
-text7_reads (some t) out to e r u v = (u, record { stored = v; next_is = refl })
+text7_reads None out to e r u v = u
+text7_reads (Some t) out to e r u v = (u, record { stored = v; next_is = refl })
 
 -- ---- the frame
 
@@ -70,11 +70,11 @@ module _ (l : ℕ) (b : List Bool) (o : Option (decode.Head × List Bool)) (out 
   pub headed : (p q : ℕ) (t : AprsType) → r ≡ Is p q t → HeadRead l b o out e p q t
   headed p q t u = subst (λ (x : Head). Heads l b o out e x) u h
 
-  pub unheaded : r ≡ Nothing → o ≡ none
+  pub unheaded : r ≡ Nothing → o ≡ None
   unheaded u = subst (λ (x : Head). Heads l b o out e x) u h
 
 module _ (mended : Bool) (l header n : ℕ) (b : List Bool) (c : n ≡ digi_count header) where
-  pub frame_none : read_head mended l n b ≡ none → read_frame mended l header b ≡ none
+  pub frame_none : read_head mended l n b ≡ None → read_frame mended l header b ≡ None
   unfolding read_frame
   frame_none u = rw (← c, u)
 
@@ -88,13 +88,13 @@ module _ (mended : Bool) (l header n : ℕ) (b : List Bool) (c : n ≡ digi_coun
     fields : List ℕ
     fields = addresses l (h.head.dest ∷ h.head.src ∷ h.head.digis) (false ∷ false ∷ h.head.heard)
 
-    frame_is : (u : List ℕ) → u ≡ pick (odd (header / 64)) (0x03 ∷ 0xF0 ∷ []) [] → read_frame mended l header b ≡ (read_info mended l (type_number t) b (drop p b) >>= (λ i. some ((fields ++ u) ++ i)))
+    frame_is : (u : List ℕ) → u ≡ pick (odd (header / 64)) (0x03 ∷ 0xF0 ∷ []) [] → read_frame mended l header b ≡ (read_info mended l (type_number t) b (drop p b) >>= (λ i. Some ((fields ++ u) ++ i)))
     unfolding read_frame fields
     frame_is u eu = rw (← c, h.is, h.kind, ← eu) (together u (read_info mended l (type_number t) b (drop p b)))
       where
-        together : (u : List ℕ) (o : Option (List ℕ)) → (o >>= (λ i. some (fields ++ (u ++ i)))) ≡ (o >>= (λ i. some ((fields ++ u) ++ i)))
-        together u none = refl
-        together u (some i) = ap some (sym (append_assoc fields u i))
+        together : (u : List ℕ) (o : Option (List ℕ)) → (o >>= (λ i. Some (fields ++ (u ++ i)))) ≡ (o >>= (λ i. Some ((fields ++ u) ++ i)))
+        together u None = refl
+        together u (Some i) = ap Some (sym (append_assoc fields u i))
 
     pub frame_some : (e : List ℕ) (v : ℕ) → Wrote mid q (pick (odd (header / 64)) (0x03 ∷ 0xF0 ∷ []) []) e v → (d : List ℕ) (r : Got)
         → Reads (read_info mended l (type_number t) b (drop p b)) e v d r → Reads (read_frame mended l header b) out 0 d r

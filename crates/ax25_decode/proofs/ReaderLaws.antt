@@ -3,7 +3,8 @@
 use mathlib.Core.Path.{◌≡◌, refl, sym, ap, ap₂, subst, ◌∙◌}
 use mathlib.Core.Bool.{Bool, true, false}
 use mathlib.Core.List.{List, [], ◌∷◌, ◌++◌}
-use mathlib.Core.Option.{Option, none, some, none-ne-some, some-injective}
+use Rattle.std.proofs.Common.{Option, None, Some}
+use Rattle.std.proofs.lemmas.Option.{none-some, same_Some}
 use Prim.Native.Nat.{ℕ, zero, suc, ◌+◌, ◌-◌, ◌≤◌, ◌<◌}
 use native.Mathlib.Nat.{not-suc-le-zero, le_of_suc-le-suc}
 use native.Mathlib.Omega.{arith}
@@ -39,7 +40,7 @@ module _ {X : Type 0} (f : X → List ℕ) (b : List Bool) (o : Option (X × Lis
   pub took : (p q : ℕ) → r ≡ Next p q → Took f b o out to e p q
   took p q u = subst (λ (x : Read). ReadsTo f b o out to e x) u h
 
-  pub untaken : r ≡ Nothing → o ≡ none
+  pub untaken : r ≡ Nothing → o ≡ None
   untaken u = subst (λ (x : Read). ReadsTo f b o out to e x) u h
 
 -- a reading that is the same
@@ -102,7 +103,7 @@ module _ (b : List Bool) (o : Option (List ℕ × List Bool)) (r : Decoded) (tol
 -- ---- destination and source
 
 module _ (mended : Bool) (l : ℕ) (last : Bool) (b : List Bool) (r : List Bool) (out : List ℕ) (to : ℕ) where
-  pub ends_none : read_token mended l r ≡ none → read_ends mended l r ≡ none
+  pub ends_none : read_token mended l r ≡ None → read_ends mended l r ≡ None
   unfolding read_ends
   ends_none u = rw u
 
@@ -136,13 +137,13 @@ last_is (c ∷ cs) m e = ne_eqb (suc m) 1 (omega (arith, e))
 
 -- ---- digipeaters by tokens
 
-pub tokens_count : (mended : Bool) (l m : ℕ) (b : List Bool) (p : List (List ℕ) × List Bool) → read_tokens mended l m b ≡ some p → length p.0 ≡ m
+pub tokens_count : (mended : Bool) (l m : ℕ) (b : List Bool) (p : List (List ℕ) × List Bool) → read_tokens mended l m b ≡ Some p → length p.0 ≡ m
 unfolding read_tokens
-tokens_count mended l zero b p e = rw (← some-injective ([], b) p e)
+tokens_count mended l zero b p e = rw (← same_Some ([], b) p e)
 tokens_count mended l (suc m) b p e =
     from_some (read_token mended l b) _ p e
     (λ c ec f. from_some (read_tokens mended l m c.1) _ p f
-    (λ cs ecs g. rw (← some-injective (c.0 ∷ cs.0, cs.1) p g) (ap suc (tokens_count mended l m c.1 cs ecs))))
+    (λ cs ecs g. rw (← same_Some (c.0 ∷ cs.0, cs.1) p g) (ap suc (tokens_count mended l m c.1 cs ecs))))
 
 tokens_suc : (mended : Bool) (l m k : ℕ) (b r : List Bool) (out mid : List ℕ) (to p q : ℕ) → Took (field_of l (get_or b k false) (eqb (suc m) 1)) b (read_token mended l r) out to mid p q
     → (e : List ℕ) (a : Read) → ReadsTo (digi_bytes l b m (k + 1)) b (read_tokens mended l m (drop p b)) mid q e a
@@ -155,7 +156,7 @@ tokens_suc mended l m k b r out mid to p q t e (Next u v) d =
     record { value = t.value ∷ d.value; is = rw (t.is, d.is); wrote = wrote_as same (wrote_then t.wrote d.wrote) }
 tokens_suc mended l m k b r out mid to p q t e Nothing d = rw (t.is, d)
 
-tokens_bad : (mended : Bool) (l m : ℕ) (r : List Bool) → read_token mended l r ≡ none → read_tokens mended l (suc m) r ≡ none
+tokens_bad : (mended : Bool) (l m : ℕ) (r : List Bool) → read_token mended l r ≡ None → read_tokens mended l (suc m) r ≡ None
 unfolding read_tokens
 tokens_bad mended l m r u = rw u
 
@@ -165,10 +166,10 @@ module _ (mended : Bool) (l n k : ℕ) (b : List Bool) where
   tokens_end at out to z = record { value = []; is = rw z; wrote = wrote_none }
 
   module _ (r : List Bool) (h : n ≡ 0 → ⊥) where
-    pub tokens_none : read_token mended l r ≡ none → read_tokens mended l n r ≡ none
+    pub tokens_none : read_token mended l r ≡ None → read_tokens mended l n r ≡ None
     tokens_none u =
         let s : suc (n - 1) ≡ n = omega (arith, h) in
-        subst (λ (x : ℕ). read_tokens mended l x r ≡ none) s (tokens_bad mended l (n - 1) r u)
+        subst (λ (x : ℕ). read_tokens mended l x r ≡ None) s (tokens_bad mended l (n - 1) r u)
 
     pub tokens_more : (x : Bool) → x ≡ get_or b k false → (out mid : List ℕ) (to p q : ℕ) → Took (field_of l x (eqb n 1)) b (read_token mended l r) out to mid p q
         → (e : List ℕ) (a : Read) → ReadsTo (digi_bytes l b (n - 1) (k + 1)) b (read_tokens mended l (n - 1) (drop p b)) mid q e a
@@ -216,19 +217,19 @@ module _ (l n k : ℕ) (b : List Bool) (a : List ℕ) where
       wrote_as (ap₂ (λ (x : ℕ) (y : List ℕ). field_of l (get_or b k false) (eqb x 1) y) (sym s) ec) field in
       subst (λ (x : ℕ). Wrote out to (digi_bytes l b x k (alias_calls a (k + 1) x)) e q) s (alias_suc l (n - 1) k b a out mid e to p q first x)
 
-name_at_lem : (i : ℕ) (names : List (List ℕ)) → i < length names → name_at (suc i) names ≡ some (get_or names i [])
+name_at_lem : (i : ℕ) (names : List (List ℕ)) → i < length names → name_at (suc i) names ≡ Some (get_or names i [])
 unfolding name_at
 name_at_lem i [] h = absurd (not-suc-le-zero h)
 name_at_lem zero (a ∷ names) h = refl
 name_at_lem (suc i) (a ∷ names) h = name_at_lem i names (le_of_suc-le-suc h)
 
-name_past : (i : ℕ) (names : List (List ℕ)) → length names ≤ i → name_at (suc i) names ≡ none
+name_past : (i : ℕ) (names : List (List ℕ)) → length names ≤ i → name_at (suc i) names ≡ None
 unfolding name_at
 name_past i [] h = refl
 name_past zero (a ∷ names) h = absurd (not-suc-le-zero h)
 name_past (suc i) (a ∷ names) h = name_past i names (le_of_suc-le-suc h)
 
-name_zero : (names : List (List ℕ)) → name_at 0 names ≡ none
+name_zero : (names : List (List ℕ)) → name_at 0 names ≡ None
 unfolding name_at
 name_zero [] = refl
 name_zero (a ∷ names) = refl
@@ -238,29 +239,29 @@ unfolding aliases
 five_names = refl
 
 module _ (l n : ℕ) (r : List Bool) where
-  pub alias_short : take_bits 3 r ≡ none → read_alias n r ≡ none
+  pub alias_short : take_bits 3 r ≡ None → read_alias n r ≡ None
   unfolding read_alias
   alias_short u = rw u
 
-  module _ (i : ℕ) (e : List Bool) (u : take_bits 3 r ≡ some (i, e)) where
-    alias_unnamed : name_at i aliases ≡ none → read_alias n r ≡ none
+  module _ (i : ℕ) (e : List Bool) (u : take_bits 3 r ≡ Some (i, e)) where
+    alias_unnamed : name_at i aliases ≡ None → read_alias n r ≡ None
     unfolding read_alias
     alias_unnamed v = rw (u, v)
 
-    pub alias_zero : i ≡ 0 → read_alias n r ≡ none
+    pub alias_zero : i ≡ 0 → read_alias n r ≡ None
     alias_zero z = alias_unnamed (ap (λ (x : ℕ). name_at x aliases) z ∙ name_zero aliases)
 
-    pub alias_past : 5 < i → read_alias n r ≡ none
+    pub alias_past : 5 < i → read_alias n r ≡ None
     alias_past h =
         let s : i ≡ suc (i - 1) = omega (arith, h) in
         alias_unnamed (ap (λ (x : ℕ). name_at x aliases) s ∙ name_past (i - 1) aliases (omega (arith, five_names, h)))
 
-  pub alias_read : (b : List Bool) (i p : ℕ) → take_bits 3 r ≡ some (i, drop p b) → (i ≡ 0 → ⊥) → i ≤ 5 → (out e : List ℕ) (to q : ℕ)
+  pub alias_read : (b : List Bool) (i p : ℕ) → take_bits 3 r ≡ Some (i, drop p b) → (i ≡ 0 → ⊥) → i ≤ 5 → (out e : List ℕ) (to q : ℕ)
       → Wrote out to (digi_bytes l b n 0 (alias_calls (get_or aliases (i - 1) []) (0 + 1) n)) e q → Took (digi_bytes l b n 0) b (read_alias n r) out to e p q
   unfolding read_alias
   alias_read b i p u z h out e to q w =
       let s : i ≡ suc (i - 1) = omega (arith, z) in
-      let name : name_at i aliases ≡ some (get_or aliases (i - 1) []) = ap (λ (x : ℕ). name_at x aliases) s ∙ name_at_lem (i - 1) aliases (omega (arith, five_names, h, z)) in
+      let name : name_at i aliases ≡ Some (get_or aliases (i - 1) []) = ap (λ (x : ℕ). name_at x aliases) s ∙ name_at_lem (i - 1) aliases (omega (arith, five_names, h, z)) in
       record { value = alias_calls (get_or aliases (i - 1) []) 1 n; is = rw (u, name); wrote = w }
 
 -- ---- the alias bit
@@ -270,34 +271,34 @@ unfolding value_of num
 one_bit true = refl
 one_bit false = refl
 
-take_cons : (x : Bool) (r : List Bool) → take_bits 1 (x ∷ r) ≡ some (num x, r)
-take_cons x r = take_yes 1 (x ∷ r) (omega arith) ∙ ap (λ (v : ℕ). some (v, r)) (one_bit x)
+take_cons : (x : Bool) (r : List Bool) → take_bits 1 (x ∷ r) ≡ Some (num x, r)
+take_cons x r = take_yes 1 (x ∷ r) (omega arith) ∙ ap (λ (v : ℕ). Some (v, r)) (one_bit x)
 
-take_one : (x : Bool) (r : List Bool) (v : ℕ) (e : List Bool) → take_bits 1 (x ∷ r) ≡ some (v, e) → (num x ≡ v) × (r ≡ e)
+take_one : (x : Bool) (r : List Bool) (v : ℕ) (e : List Bool) → take_bits 1 (x ∷ r) ≡ Some (v, e) → (num x ≡ v) × (r ≡ e)
 take_one x r v e u =
-    let s = some-injective (num x, r) (v, e) (sym (take_cons x r) ∙ u) in
+    let s = same_Some (num x, r) (v, e) (sym (take_cons x r) ∙ u) in
     (ap (λ (p : ℕ × List Bool). p.0) s, ap (λ (p : ℕ × List Bool). p.1) s)
 
-take_empty : take_bits 1 [] ≡ none
+take_empty : take_bits 1 [] ≡ None
 take_empty = take_no 1 [] (omega arith)
 
-pub aliased_short : (mended : Bool) (l n : ℕ) (r : List Bool) → take_bits 1 r ≡ none → read_aliased mended l n r ≡ none
+pub aliased_short : (mended : Bool) (l n : ℕ) (r : List Bool) → take_bits 1 r ≡ None → read_aliased mended l n r ≡ None
 unfolding read_aliased
 aliased_short mended l n [] u = refl
-aliased_short mended l n (x ∷ r) u = absurd (none-ne-some (num x, r) (sym u ∙ take_cons x r))
+aliased_short mended l n (x ∷ r) u = absurd (none-some (num x, r) (sym u ∙ take_cons x r))
 
-pub aliased_yes : (mended : Bool) (l n : ℕ) (r : List Bool) (v : ℕ) (e : List Bool) → take_bits 1 r ≡ some (v, e) → v ≡ 1 → read_aliased mended l n r ≡ read_alias n e
+pub aliased_yes : (mended : Bool) (l n : ℕ) (r : List Bool) (v : ℕ) (e : List Bool) → take_bits 1 r ≡ Some (v, e) → v ≡ 1 → read_aliased mended l n r ≡ read_alias n e
 unfolding read_aliased pick num
-aliased_yes mended l n [] v e u h = absurd (none-ne-some (v, e) (sym take_empty ∙ u))
+aliased_yes mended l n [] v e u h = absurd (none-some (v, e) (sym take_empty ∙ u))
 aliased_yes mended l n (true ∷ r) v e u h = ap (read_alias n) (take_one true r v e u).1
 aliased_yes mended l n (false ∷ r) v e u h = absurd (zero_one ((take_one false r v e u).0 ∙ h))
   where
     zero_one : ◌≡◌ {A = ℕ} 0 1 → ⊥
     zero_one q = omega (arith, q)
 
-pub aliased_no : (mended : Bool) (l n : ℕ) (r : List Bool) (v : ℕ) (e : List Bool) → take_bits 1 r ≡ some (v, e) → (v ≡ 1 → ⊥) → read_aliased mended l n r ≡ read_tokens mended l n e
+pub aliased_no : (mended : Bool) (l n : ℕ) (r : List Bool) (v : ℕ) (e : List Bool) → take_bits 1 r ≡ Some (v, e) → (v ≡ 1 → ⊥) → read_aliased mended l n r ≡ read_tokens mended l n e
 unfolding read_aliased pick num
-aliased_no mended l n [] v e u h = absurd (none-ne-some (v, e) (sym take_empty ∙ u))
+aliased_no mended l n [] v e u h = absurd (none-some (v, e) (sym take_empty ∙ u))
 aliased_no mended l n (true ∷ r) v e u h = absurd (h (sym (take_one true r v e u).0))
 aliased_no mended l n (false ∷ r) v e u h = ap (read_tokens mended l n) (take_one false r v e u).1
 

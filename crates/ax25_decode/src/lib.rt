@@ -2,7 +2,7 @@
 #![tactic(auto)]
 
 ghost use Rattle.std.specs.Prelude.{◌≡◌, false, [], ◌∷◌, ◌+◌, ◌*◌, ◌/◌, ◌^◌, ◌≤◌, ◌<◌, ℕ, length, get_or, drop};
-ghost use Rattle.std.proofs.Math.Option.{none, some};
+ghost use Rattle.std.specs.Prelude.{None, Some};
 ghost use Rattle.laws.specs.Bits.{odd, unpack};
 ghost use Rattle.laws.specs.Pick.{pick};
 ghost use Rattle.laws.specs.Wrote.{Wrote};
@@ -221,7 +221,7 @@ fn read_digis(
 
 // The type of a code.
 fn from_code(v: u64, at: usize) -> Typed
-    ensures { type_is result ≡ pick (known v) (some (v, at)) none }
+    ensures { type_is result ≡ pick (known v) (Some (v, at)) None }
 {
     match v {
         0 => Typed::Is(AprsType::Text, at),

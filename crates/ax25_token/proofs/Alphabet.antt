@@ -3,7 +3,7 @@
 use mathlib.Core.Path.{◌≡◌, refl, ap, ◌∙◌}
 use mathlib.Core.Bool.{Bool, true, false, ◌&&◌, false≢true}
 use mathlib.Core.List.{List}
-use mathlib.Core.Option.{Option, none, some}
+use Rattle.std.proofs.Common.{Option, None, Some}
 use Prim.Native.Nat.{ℕ, ◌≤◌, ◌<◌}
 use native.Mathlib.Omega.{arith}
 use lib.ListN.{length, get_or}
@@ -18,27 +18,27 @@ use Rattle.ax25_token.specs.Tables.{call_alphabet, alpha_of, letter_codes, entry
 -- ---- the same code, or none both times
 
 unfoldable pub same_code : Option ℕ → Option ℕ → Bool
-same_code none none = true
-same_code none (some w) = false
-same_code (some v) none = false
-same_code (some v) (some w) = eqb v w
+same_code None None = true
+same_code None (Some w) = false
+same_code (Some v) None = false
+same_code (Some v) (Some w) = eqb v w
 
 same_code_lem : (o p : Option ℕ) → same_code o p ≡ true → o ≡ p
 unfolding same_code
-same_code_lem none none e = refl
-same_code_lem none (some w) e = absurd (false≢true e)
-same_code_lem (some v) none e = absurd (false≢true e)
-same_code_lem (some v) (some w) e = ap some (eqb-true v w e)
+same_code_lem None None e = refl
+same_code_lem None (Some w) e = absurd (false≢true e)
+same_code_lem (Some v) None e = absurd (false≢true e)
+same_code_lem (Some v) (Some w) e = ap Some (eqb-true v w e)
 
 -- ---- what an entry stands for
 
-pub entry_code_lem : (e : ℕ) → e < 37 → entry_code e ≡ some e
+pub entry_code_lem : (e : ℕ) → e < 37 → entry_code e ≡ Some e
 unfolding entry_code
-entry_code_lem e h = pick_true (some e) none (lt-ltb e _ (omega arith))
+entry_code_lem e h = pick_true (Some e) None (lt-ltb e _ (omega arith))
 
-pub entry_no_code : (e : ℕ) → 37 ≤ e → entry_code e ≡ none
+pub entry_no_code : (e : ℕ) → 37 ≤ e → entry_code e ≡ None
 unfolding entry_code
-entry_no_code e h = pick_false (some e) none (le-ltb e _ (omega arith))
+entry_no_code e h = pick_false (Some e) None (le-ltb e _ (omega arith))
 
 -- ---- the whole table
 

@@ -3,7 +3,8 @@
 use mathlib.Core.Path.{◌≡◌, refl, sym, ap, ap₂, ◌∙◌}
 use mathlib.Core.Bool.{Bool, true, ◌&&◌}
 use mathlib.Core.List.{List, [], ◌∷◌, ◌++◌, append_assoc, append-nil}
-use mathlib.Core.Option.{Option, none, some, some-injective, none-ne-some}
+use Rattle.std.proofs.Common.{Option, None, Some}
+use Rattle.std.proofs.lemmas.Option.{same_Some, none-some}
 use Prim.Native.Nat.{ℕ, ◌+◌, ◌-◌, ◌/◌, ◌%◌, ◌≤◌, ◌<◌}
 use native.Mathlib.Numerals.{add-one}
 use native.Mathlib.Omega.{arith}
@@ -84,40 +85,40 @@ None r = (r.token ≡ Nothing) × (r.call ≡ empty)
 -- a name, and then the reading
 pub behind_after : (c : Call) (n : List ℕ) (o : Option (List ℕ × List Bool)) → behind_call c (after n o) ≡ behind_call (appended c n) o
 unfolding behind_call after
-behind_after c n none = refl
-behind_after c n (some p) = rw (appended_append c n p.0)
+behind_after c n None = refl
+behind_after c n (Some p) = rw (appended_append c n p.0)
 
 -- the call as it is; no call; a text more
-pub onto_stop : (b : List Bool) (c : Call) (n p : ℕ) (o : Option (List ℕ × List Bool)) → o ≡ some ([], drop p b)
+pub onto_stop : (b : List Bool) (c : Call) (n p : ℕ) (o : Option (List ℕ × List Bool)) → o ≡ Some ([], drop p b)
     → Onto b c n o (record { token = Next p; call = c })
 unfolding call_of call_by behind_call appended
 onto_stop b c n p o e = (rw e, omega arith)
 
-pub onto_nothing : (b : List Bool) (c : Call) (n : ℕ) (o : Option (List ℕ × List Bool)) (r : Decoded) → o ≡ none → None r → Onto b c n o r
+pub onto_nothing : (b : List Bool) (c : Call) (n : ℕ) (o : Option (List ℕ × List Bool)) (r : Decoded) → o ≡ None → None r → Onto b c n o r
 unfolding call_of call_by behind_call
 onto_nothing b c n o r e q =
     let len : r.call.len ≡ 0 = ap (λ (d : Call). d.len) q.1 in
     (rw (e, q.0), omega arith)
 
 pub onto_next : (b : List Bool) (c : Call) (n : ℕ) (o : Option (List ℕ × List Bool)) (t : List ℕ) (p : ℕ) (d : Call)
-    → o ≡ some (t, drop p b) → d ≡ appended c t → d.len ≤ c.len + n → Onto b c n o (record { token = Next p; call = d })
+    → o ≡ Some (t, drop p b) → d ≡ appended c t → d.len ≤ c.len + n → Onto b c n o (record { token = Next p; call = d })
 unfolding call_of call_by behind_call
 onto_next b c n o t p d e q l = (rw (e, q), l)
 
 -- what an answer with a next position was read from
 pub record Got (b : List Bool) (c : Call) (o : Option (List ℕ × List Bool)) (d : Call) (p : ℕ) : Type 0 where
   pub text : List ℕ
-  pub read : o ≡ some (text, drop p b)
+  pub read : o ≡ Some (text, drop p b)
   pub call : d ≡ appended c text
 
-got_by : (b : List Bool) (c : Call) (o : Option (List ℕ × List Bool)) (d : Call) (p : ℕ) → some (d, drop p b) ≡ behind_call c o → Got b c o d p
+got_by : (b : List Bool) (c : Call) (o : Option (List ℕ × List Bool)) (d : Call) (p : ℕ) → Some (d, drop p b) ≡ behind_call c o → Got b c o d p
 unfolding behind_call
-got_by b c none d p e = absurd (none-ne-some (d, drop p b) (sym e))
-got_by b c (some q) d p e =
-    let f = some-injective (d, drop p b) (appended c q.0, q.1) e in
+got_by b c None d p e = absurd (none-some (d, drop p b) (sym e))
+got_by b c (Some q) d p e =
+    let f = same_Some (d, drop p b) (appended c q.0, q.1) e in
     record {
       text = q.0;
-      read = ap (λ (r : List Bool). some (q.0, r)) (sym (ap (λ (x : Call × List Bool). x.1) f));
+      read = ap (λ (r : List Bool). Some (q.0, r)) (sym (ap (λ (x : Call × List Bool). x.1) f));
       call = ap (λ (x : Call × List Bool). x.0) f;
     }
 
@@ -126,30 +127,30 @@ pub got_next : (b : List Bool) (c : Call) (n : ℕ) (o : Option (List ℕ × Lis
 unfolding call_of call_by
 got_next b c n o r p i e = got_by b c o r.call p (rw e at i.0)
 
-none_by : (c : Call) (o : Option (List ℕ × List Bool)) → none ≡ behind_call c o → o ≡ none
+none_by : (c : Call) (o : Option (List ℕ × List Bool)) → None ≡ behind_call c o → o ≡ None
 unfolding behind_call
-none_by c none e = refl
-none_by c (some q) e = absurd (none-ne-some (appended c q.0, q.1) e)
+none_by c None e = refl
+none_by c (Some q) e = absurd (none-some (appended c q.0, q.1) e)
 
-pub got_none : (b : List Bool) (c : Call) (n : ℕ) (o : Option (List ℕ × List Bool)) (r : Decoded) → Onto b c n o r → r.token ≡ Nothing → o ≡ none
+pub got_none : (b : List Bool) (c : Call) (n : ℕ) (o : Option (List ℕ × List Bool)) (r : Decoded) → Onto b c n o r → r.token ≡ Nothing → o ≡ None
 unfolding call_of call_by
 got_none b c n o r i e = none_by c o (rw e at i.0)
 
 -- ---- the text of an answer
 
 text_by : (b : List Bool) (o : Option (List ℕ × List Bool)) (d : Call) (x : Option (Call × List Bool))
-    → ((q : List Bool) (e : Call) → x ≡ some (e, q) → e ≡ d) → d.len ≤ 16 → x ≡ behind_call empty o → texts x ≡ o
+    → ((q : List Bool) (e : Call) → x ≡ Some (e, q) → e ≡ d) → d.len ≤ 16 → x ≡ behind_call empty o → texts x ≡ o
 unfolding behind_call texts
-text_by b none d x f l e = rw e
-text_by b (some p) d x f l e =
+text_by b None d x f l e = rw e
+text_by b (Some p) d x f l e =
     let g : appended empty p.0 ≡ d = f p.1 (appended empty p.0) e in
     let len : (appended empty p.0).len ≡ d.len = ap (λ (c : Call). c.len) g in
     rw (e, text_back p.0 (omega (arith, len_appended empty p.0)))
 
-call_is : (b : List Bool) (c : Call) (t : Token) (q : List Bool) (e : Call) → call_by b c t ≡ some (e, q) → e ≡ c
+call_is : (b : List Bool) (c : Call) (t : Token) (q : List Bool) (e : Call) → call_by b c t ≡ Some (e, q) → e ≡ c
 unfolding call_by
-call_is b c (Next p) q e h = sym (ap (λ (x : Call × List Bool). x.0) (some-injective (c, drop p b) (e, q) h))
-call_is b c Nothing q e h = absurd (none-ne-some (e, q) h)
+call_is b c (Next p) q e h = sym (ap (λ (x : Call × List Bool). x.0) (same_Some (c, drop p b) (e, q) h))
+call_is b c Nothing q e h = absurd (none-some (e, q) h)
 
 -- a reading into the empty call, of at most 16 bytes
 pub onto_text : (b : List Bool) (n : ℕ) (o : Option (List ℕ × List Bool)) (r : Decoded) → n ≤ 16 → Onto b empty n o r
@@ -160,11 +161,11 @@ onto_text b n o r h i =
 
 -- what an answer says of the reading, by its token
 module _ (b : List Bool) (o : Option (List ℕ × List Bool)) (r : Decoded) (told : texts (call_of b r) ≡ o) where
-  pub token_next : (p : ℕ) → r.token ≡ Next p → o ≡ some (text_of r.call, drop p b)
+  pub token_next : (p : ℕ) → r.token ≡ Next p → o ≡ Some (text_of r.call, drop p b)
   unfolding call_of call_by texts
   token_next p e = rw (← told, e)
 
-  pub token_nothing : r.token ≡ Nothing → o ≡ none
+  pub token_nothing : r.token ≡ Nothing → o ≡ None
   unfolding call_of call_by texts
   token_nothing e = rw (← told, e)
 

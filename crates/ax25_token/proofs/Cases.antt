@@ -3,7 +3,7 @@
 use mathlib.Core.Path.{◌≡◌, refl, sym, ap, ◌∙◌}
 use mathlib.Core.Bool.{Bool, true, false, ◌&&◌, ◌||◌}
 use mathlib.Core.List.{List, [], ◌∷◌, ◌++◌, map}
-use mathlib.Core.Option.{Option, none, some}
+use Rattle.std.proofs.Common.{Option, None, Some}
 use Prim.Native.Nat.{ℕ, suc, zero, ◌+◌, ◌-◌, ◌≤◌, ◌<◌}
 use native.Mathlib.Nat.{not-suc-le-zero, le_of_suc-le-suc}
 use native.Mathlib.Omega.{arith}
@@ -42,7 +42,7 @@ module _ (v : ℕ) where
 -- ---- letters
 
 module _ (strict : Bool) (n : ℕ) (b : List Bool) where
-  pub letters_all : n ≡ 0 → read_letters strict n b ≡ some ([], b)
+  pub letters_all : n ≡ 0 → read_letters strict n b ≡ Some ([], b)
   unfolding read_letters
   letters_all e = rw e
 
@@ -51,22 +51,22 @@ module _ (strict : Bool) (n : ℕ) (b : List Bool) where
       let q : n ≡ suc (n - 1) = omega (arith, any) in
       ap (λ (m : ℕ). read_letters strict m b) q ∙ e
 
-  pub letters_short : (n ≡ 0 → ⊥) → take_bits 6 b ≡ none → read_letters strict n b ≡ none
+  pub letters_short : (n ≡ 0 → ⊥) → take_bits 6 b ≡ None → read_letters strict n b ≡ None
   unfolding read_letters
-  letters_short any e = one_more none any (rw e)
+  letters_short any e = one_more None any (rw e)
 
-  module _ (any : n ≡ 0 → ⊥) (v : ℕ) (r : List Bool) (e : take_bits 6 b ≡ some (v, r)) where
-    pub letters_blank : v ≡ 0 → read_letters strict n b ≡ some ([], r)
+  module _ (any : n ≡ 0 → ⊥) (v : ℕ) (r : List Bool) (e : take_bits 6 b ≡ Some (v, r)) where
+    pub letters_blank : v ≡ 0 → read_letters strict n b ≡ Some ([], r)
     unfolding read_letters letter_of pick go_on
-    letters_blank h = one_more (some ([], r)) any (rw (e, eq-eqb v 0 h))
+    letters_blank h = one_more (Some ([], r)) any (rw (e, eq-eqb v 0 h))
 
     pub letters_more : (v ≡ 0 → ⊥) → v < 37 → read_letters strict n b ≡ after (get_or call_alphabet v 0 ∷ []) (read_letters strict (n - 1) r)
     unfolding read_letters letter_of pick go_on
     letters_more h k = one_more (after (get_or call_alphabet v 0 ∷ []) (read_letters strict (n - 1) r)) any (rw (e, ne_eqb v 0 h, lt-ltb v 37 k))
 
-    pub letters_strict : strict ≡ true → 37 ≤ v → read_letters strict n b ≡ none
+    pub letters_strict : strict ≡ true → 37 ≤ v → read_letters strict n b ≡ None
     unfolding read_letters letter_of pick go_on
-    letters_strict s k = one_more none any (rw (e, ne_eqb v 0 (λ z. omega arith), le-ltb v 37 k, s))
+    letters_strict s k = one_more None any (rw (e, ne_eqb v 0 (λ z. omega arith), le-ltb v 37 k, s))
 
     pub letters_skip : strict ≡ false → 37 ≤ v → read_letters strict n b ≡ read_letters strict (n - 1) r
     unfolding read_letters letter_of pick go_on
@@ -75,16 +75,16 @@ module _ (strict : Bool) (n : ℕ) (b : List Bool) where
 -- ---- a spelled call
 
 module _ (n : ℕ) (b : List Bool) where
-  pub spelled_short : read_letters false n b ≡ none → read_spelled n b ≡ none
+  pub spelled_short : read_letters false n b ≡ None → read_spelled n b ≡ None
   unfolding read_spelled
   spelled_short e = rw e
 
-  module _ (t : List ℕ) (r : List Bool) (e : read_letters false n b ≡ some (t, r)) where
-    pub spelled_bare : take_bits 4 r ≡ none → read_spelled n b ≡ none
+  module _ (t : List ℕ) (r : List Bool) (e : read_letters false n b ≡ Some (t, r)) where
+    pub spelled_bare : take_bits 4 r ≡ None → read_spelled n b ≡ None
     unfolding read_spelled
     spelled_bare f = rw (e, f)
 
-    pub spelled_whole : (v : ℕ) (q : List Bool) → take_bits 4 r ≡ some (v, q) → read_spelled n b ≡ some (t ++ suffix v, q)
+    pub spelled_whole : (v : ℕ) (q : List Bool) → take_bits 4 r ≡ Some (v, q) → read_spelled n b ≡ Some (t ++ suffix v, q)
     unfolding read_spelled
     spelled_whole v q f = rw (e, f)
 
@@ -112,7 +112,7 @@ bit_alike : (b : List Bool) → take_bits 1 b ≡ take_text 1 b
 bit_alike [] = take_no 1 [] (omega arith) ∙ sym (text_no 1 [] (omega arith))
 bit_alike (x ∷ b) =
     let h : 1 ≤ length (x ∷ b) = omega arith in
-    let e : ◌≡◌ {A = Option (ℕ × List Bool)} (some (value_of (x ∷ []), b)) (some (val_of (letter x ∷ []), b)) = rw (one_bit x) in
+    let e : ◌≡◌ {A = Option (ℕ × List Bool)} (Some (value_of (x ∷ []), b)) (Some (val_of (letter x ∷ []), b)) = rw (one_bit x) in
     take_yes 1 (x ∷ b) h ∙ e ∙ sym (text_yes 1 (x ∷ b) h)
 
 -- one bit or none is the same number under both readings: the rows of PAIRS but WIDE read alike
@@ -125,25 +125,25 @@ pairs_alike b (suc (suc w)) h = absurd (not-suc-le-zero (le_of_suc-le-suc h))
 -- ---- a digit and a number, and a number
 
 module _ (mended : Bool) (w : ℕ) (b : List Bool) where
-  pub pair_short : take_bits 1 b ≡ none → read_pair mended w b ≡ none
+  pub pair_short : take_bits 1 b ≡ None → read_pair mended w b ≡ None
   unfolding read_pair
   pair_short e = rw e
 
-  module _ (d : ℕ) (r : List Bool) (e : take_bits 1 b ≡ some (d, r)) where
-    pub pair_bare : wide_number mended w r ≡ none → read_pair mended w b ≡ none
+  module _ (d : ℕ) (r : List Bool) (e : take_bits 1 b ≡ Some (d, r)) where
+    pub pair_bare : wide_number mended w r ≡ None → read_pair mended w b ≡ None
     unfolding read_pair
     pair_bare f = rw (e, f)
 
-    pub pair_whole : (v : ℕ) (q : List Bool) → wide_number mended w r ≡ some (v, q) → read_pair mended w b ≡ some ((49 + d) ∷ suffix v, q)
+    pub pair_whole : (v : ℕ) (q : List Bool) → wide_number mended w r ≡ Some (v, q) → read_pair mended w b ≡ Some ((49 + d) ∷ suffix v, q)
     unfolding read_pair
     pair_whole v q f = rw (e, f)
 
 module _ (w : ℕ) (b : List Bool) where
-  pub number_short : (lo : ℕ) → take_bits w b ≡ none → read_number lo w b ≡ none
+  pub number_short : (lo : ℕ) → take_bits w b ≡ None → read_number lo w b ≡ None
   unfolding read_number
   number_short lo e = rw e
 
-  pub number_whole : (lo v : ℕ) (q : List Bool) → take_bits w b ≡ some (v, q) → read_number lo w b ≡ some (two_digits (v + lo), q)
+  pub number_whole : (lo v : ℕ) (q : List Bool) → take_bits w b ≡ Some (v, q) → read_number lo w b ≡ Some (two_digits (v + lo), q)
   unfolding read_number
   number_whole lo v q e = rw e
 
@@ -210,7 +210,7 @@ all_forms : (below (are_from 0 spelled_at) 37 ≡ true) × (below (are_from 37 (
 unfolding below are_from form_key same spelled_at paired_at named_at counted_at name_at form_of symbol_form pair_form fixed_form numbered_form wide_row pair_rows fixed_rows numbered_rows long call_alphabet pick
 all_forms = (refl, refl, refl, refl, refl, refl, refl, refl, refl)
 
-no_element : (l : List ℕ) (i : ℕ) → length l ≤ i → get_elem? l i ≡ none
+no_element : (l : List ℕ) (i : ℕ) → length l ≤ i → get_elem? l i ≡ None
 no_element [] i h = refl
 no_element (x ∷ l) zero h = absurd (not-suc-le-zero h)
 no_element (x ∷ l) (suc i) h = no_element l i (le_of_suc-le-suc h)
@@ -258,11 +258,11 @@ module _ (i : ℕ) where
 -- ---- a token, and each form
 
 module _ (mended : Bool) (l : ℕ) (b : List Bool) where
-  pub token_short : take_bits 6 b ≡ none → read_token mended l b ≡ none
+  pub token_short : take_bits 6 b ≡ None → read_token mended l b ≡ None
   unfolding read_token
   token_short e = rw e
 
-  pub token_form : (i : ℕ) (r : List Bool) → take_bits 6 b ≡ some (i, r) → read_token mended l b ≡ read_form mended l (form_of i) r
+  pub token_form : (i : ℕ) (r : List Bool) → take_bits 6 b ≡ Some (i, r) → read_token mended l b ≡ read_form mended l (form_of i) r
   unfolding read_token
   token_form i r e = rw e
 
@@ -275,7 +275,7 @@ module _ (mended : Bool) (l : ℕ) (b : List Bool) where
   unfolding read_form
   read_pair_lem n w = refl
 
-  pub read_name : (n : List ℕ) → read_form mended l (named n) b ≡ some (n, b)
+  pub read_name : (n : List ℕ) → read_form mended l (named n) b ≡ Some (n, b)
   unfolding read_form
   read_name n = refl
 
@@ -287,7 +287,7 @@ module _ (mended : Bool) (l : ℕ) (b : List Bool) where
   unfolding read_form
   read_ap = refl
 
-  pub read_none : read_form mended l no_token b ≡ none
+  pub read_none : read_form mended l no_token b ≡ None
   unfolding read_form
   read_none = refl
 
@@ -297,7 +297,7 @@ and_false false = refl
 
 -- ---- coding: letters
 
-pub spell_bad : (x : ℕ) (xs : List ℕ) → alpha_of x ≡ none → spell (x ∷ xs) ≡ none
+pub spell_bad : (x : ℕ) (xs : List ℕ) → alpha_of x ≡ None → spell (x ∷ xs) ≡ None
 unfolding spell
 spell_bad x xs e = rw e
 
@@ -343,19 +343,19 @@ module _ (c : List ℕ) where
   plain_hyphened h = rw h (and_false (starts (ascii "AP") c))
 
 module _ (l : ℕ) (c : List ℕ) where
-  pub ap_whole : (b : List Bool) → spell (drop 2 c) ≡ some b → ap_bits l c ≡ some (bits_of 6 52 ++ (b ++ ending l (length c)))
+  pub ap_whole : (b : List Bool) → spell (drop 2 c) ≡ Some b → ap_bits l c ≡ Some (bits_of 6 52 ++ (b ++ ending l (length c)))
   unfolding ap_bits
   ap_whole b e = rw (e, ap_symbol)
 
-  pub spelled_bits_lem : (b : List Bool) → spell (map upper (base_of c)) ≡ some b
-      → spelled_bits l c ≡ some (b ++ (ending l (length (base_of c)) ++ bits_of 4 (val_of (behind c))))
+  pub spelled_bits_lem : (b : List Bool) → spell (map upper (base_of c)) ≡ Some b
+      → spelled_bits l c ≡ Some (b ++ (ending l (length (base_of c)) ++ bits_of 4 (val_of (behind c))))
   unfolding spelled_bits
   spelled_bits_lem b e = rw e
 
 -- ---- coding: the rows of NUMBERED
 
 module _ (c : List ℕ) (n : Numbered) (ns : List Numbered) where
-  pub numbered_here : takes n c ≡ true → numbered_bits (n ∷ ns) c ≡ some (bits_of 6 (sym_of n.sym) ++ bits_of n.width (number_at c 4 2 - n.low))
+  pub numbered_here : takes n c ≡ true → numbered_bits (n ∷ ns) c ≡ Some (bits_of 6 (sym_of n.sym) ++ bits_of n.width (number_at c 4 2 - n.low))
   unfolding numbered_bits pick
   numbered_here e = rw e
 
@@ -365,6 +365,6 @@ module _ (c : List ℕ) (n : Numbered) (ns : List Numbered) where
 
 -- ---- coding: WIDE
 
-pub code_wide : (l : ℕ) (c : List ℕ) → is_one_of c wide_tokens ≡ true → token_bits l c ≡ some (pair_bits wide_row c)
+pub code_wide : (l : ℕ) (c : List ℕ) → is_one_of c wide_tokens ≡ true → token_bits l c ≡ Some (pair_bits wide_row c)
 unfolding token_bits pick
 code_wide l c e = rw e

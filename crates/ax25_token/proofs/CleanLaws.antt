@@ -5,7 +5,7 @@ use mathlib.Core.Logic.{◌⊎◌, inl, inr}
 use mathlib.Core.Bool.{Bool, true, false, ◌&&◌, ◌||◌, not, false≢true}
 use mathlib.Core.List.{List, [], ◌∷◌, ◌++◌, map, append-nil, map-append}
 use mathlib.Core.Option
-use mathlib.Core.Option.{Option, none, some}
+use Rattle.std.proofs.Common.{Option, None, Some}
 use Prim.Native.Nat.{ℕ, zero, suc, ◌≤◌, ◌<◌}
 use native.Mathlib.Omega.{arith}
 use lib.ListN.{drop, get_or}
@@ -38,7 +38,7 @@ alpha_code x = Option.get_or (alpha_of x) 0
 
 -- what is known of a clean letter
 pub record Spelt (x : ℕ) : Type 0 where
-  pub found : alpha_of x ≡ some (alpha_code x)
+  pub found : alpha_of x ≡ Some (alpha_code x)
   pub low : 1 ≤ alpha_code x
   pub high : alpha_code x < 37
   pub back : get_or call_alphabet (alpha_code x) 0 ≡ x
@@ -47,8 +47,8 @@ pub record Spelt (x : ℕ) : Type 0 where
 
 -- (by a computed test over the numbers below 91)
 is_some : Option ℕ → Bool
-is_some none = false
-is_some (some v) = true
+is_some None = false
+is_some (Some v) = true
 
 spelt : ℕ → Bool
 spelt x =
@@ -69,10 +69,10 @@ clean_lt x e = below_91 (letter_or_digit x e)
     below_91 (inl p) = omega arith
     below_91 (inr p) = omega arith
 
-is_some_lem : (o : Option ℕ) → is_some o ≡ true → o ≡ some (Option.get_or o 0)
+is_some_lem : (o : Option ℕ) → is_some o ≡ true → o ≡ Some (Option.get_or o 0)
 unfolding is_some
-is_some_lem none e = absurd (false≢true e)
-is_some_lem (some v) e = refl
+is_some_lem None e = absurd (false≢true e)
+is_some_lem (Some v) e = refl
 
 pub clean_spelt : (x : ℕ) → clean_letter x ≡ true → Spelt x
 unfolding if_clean spelt alpha_code

@@ -3,7 +3,8 @@
 use mathlib.Core.Path.{◌≡◌, refl, sym, ap, ◌∙◌}
 use mathlib.Core.Bool.{Bool, true, false, ◌&&◌}
 use mathlib.Core.List.{List, [], ◌∷◌, ◌++◌, map}
-use mathlib.Core.Option.{Option, none, some, some-injective}
+use Rattle.std.proofs.Common.{Option, None, Some}
+use Rattle.std.proofs.lemmas.Option.{same_Some}
 use Prim.Native.Nat.{ℕ}
 use native.Mathlib.Omega.{arith}
 use Prim.Native.String.{String}
@@ -28,14 +29,14 @@ gives f (v ∷ vs) = same_code (f v.0) v.1 && gives f vs
 
 letters : List (ℕ × Option ℕ)
 letters =
-    (0x20, some 0) ∷ (0x30, some 27) ∷ (0x39, some 36) ∷ (0x41, some 1) ∷ (0x5A, some 26)
-    ∷ (0x2D, none) ∷ (0x61, none) ∷ (0x00, none) ∷ (0x80, none) ∷ (0xFF, none)
+    (0x20, Some 0) ∷ (0x30, Some 27) ∷ (0x39, Some 36) ∷ (0x41, Some 1) ∷ (0x5A, Some 26)
+    ∷ (0x2D, None) ∷ (0x61, None) ∷ (0x00, None) ∷ (0x80, None) ∷ (0xFF, None)
     -- beside the blank, the digits, the letters and the small letters
-    ∷ (0x1F, none) ∷ (0x21, none) ∷ (0x2F, none) ∷ (0x3A, none) ∷ (0x40, none) ∷ (0x5B, none) ∷ (0x60, none) ∷ (0x7A, none) ∷ (0x7B, none)
+    ∷ (0x1F, None) ∷ (0x21, None) ∷ (0x2F, None) ∷ (0x3A, None) ∷ (0x40, None) ∷ (0x5B, None) ∷ (0x60, None) ∷ (0x7A, None) ∷ (0x7B, None)
     ∷ []
 
 entries : List (ℕ × Option ℕ)
-entries = (0, some 0) ∷ (36, some 36) ∷ (37, none) ∷ (254, none) ∷ (255, none) ∷ []
+entries = (0, Some 0) ∷ (36, Some 36) ∷ (37, None) ∷ (254, None) ∷ (255, None) ∷ []
 
 letter_examples : (gives alpha_of letters ≡ true) × (gives (λ b. entry_code (get_or letter_codes b 0)) letters ≡ true) × (gives entry_code entries ≡ true)
 unfolding gives letters entries same_code alpha_of call_alphabet letter_codes entry_code position later pick
@@ -44,8 +45,8 @@ letter_examples = (refl, refl, refl)
 -- ---- call length, call, bits
 
 codes_as : Option (List Bool) → List ℕ → Bool
-codes_as none t = same t (ascii "bad")
-codes_as (some b) t = same (map letter b) t
+codes_as None t = same t (ascii "bad")
+codes_as (Some b) t = same (map letter b) t
 
 codes : List (ℕ × String × String) → Bool
 codes [] = true
@@ -73,8 +74,8 @@ coded =
 -- ---- call length, bits, call, bits left
 
 reads_as : Option (List ℕ × List Bool) → List ℕ → List ℕ → Bool
-reads_as none c r = same c (ascii "none")
-reads_as (some p) c r = same p.0 c && same (map letter p.1) r
+reads_as None c r = same c (ascii "None")
+reads_as (Some p) c r = same p.0 c && same (map letter p.1) r
 
 reads : Bool → List (ℕ × String × String × String) → Bool
 reads mended [] = true
@@ -93,10 +94,10 @@ read =
     ∷ (6, "000000001001000000000001", " I", "01")
     -- a letter of 37 is skipped, and fatal in the AP form
     ∷ (6, "000001100101000010000000101001", "AB-10", "01")
-    ∷ (6, "110100100101000010000000101001", "none", "")
+    ∷ (6, "110100100101000010000000101001", "None", "")
     -- no token, and too few bits
-    ∷ (6, "1101010000000000000000000000000000000000", "none", "")
-    ∷ (6, "000001000000111", "none", "")
+    ∷ (6, "1101010000000000000000000000000000000000", "None", "")
+    ∷ (6, "000001000000111", "None", "")
     ∷ []
 
 -- ---- bits, the call of the original reading, the call of the mended one, bits left; for calls of six letters and of seven
@@ -119,7 +120,7 @@ read_both =
     ∷ ("10010111101", "WIDE2-11", "WIDE2-3", "01")
     -- nothing follows; a bit is missing
     ∷ ("100101110", "WIDE2-10", "WIDE2-2", "")
-    ∷ ("10010111", "none", "none", "")
+    ∷ ("10010111", "None", "None", "")
     -- the other pairs have one bit
     ∷ ("1001101001", "PNW2", "PNW2", "01")
     ∷ ("1001101101", "PNW2-1", "PNW2-1", "01")
@@ -138,5 +139,5 @@ cq_same : (l : ℕ) (rest : List Bool) → read_token true l (bits_of 6 43 ++ re
 cq_same l rest =
     token_same l (bits_of 6 43 ++ rest)
     (λ r e.
-    let is : 43 ≡ 37 = ap (λ (p : ℕ × List Bool). p.0) (some-injective (43, rest) (37, r) (sym (take_bits_lem 6 43 rest) ∙ e)) in
+    let is : 43 ≡ 37 = ap (λ (p : ℕ × List Bool). p.0) (same_Some (43, rest) (37, r) (sym (take_bits_lem 6 43 rest) ∙ e)) in
     absurd (omega (arith, is)))

@@ -3,7 +3,7 @@
 use mathlib.Core.Path.{◌≡◌, refl, sym, ap, subst, ◌∙◌}
 use mathlib.Core.Bool.{Bool, true, false, ◌&&◌, ◌||◌, not, false≢true}
 use mathlib.Core.List.{List, [], ◌∷◌, ◌++◌, map, append_assoc}
-use mathlib.Core.Option.{Option, none, some}
+use Rattle.std.proofs.Common.{Option, None, Some}
 use Prim.Native.Nat.{ℕ, ◌-◌, ◌≤◌, ◌<◌}
 use native.Mathlib.Omega.{arith}
 use lib.ListN.{length, take, drop, get_or, length-drop, get_or-eq_default}
@@ -107,7 +107,7 @@ module _ (t : List ℕ) where
 module _ (c : List ℕ) where
   -- what `pair_of` tells
   abbrev Rows : Row → Type 0
-  Rows r = (row_bits r c ≡ pick (is_one_of c wide_tokens) (some (pair_bits wide_row c)) (pairs_bits pair_rows c)) × SmallRow r
+  Rows r = (row_bits r c ≡ pick (is_one_of c wide_tokens) (Some (pair_bits wide_row c)) (pairs_bits pair_rows c)) × SmallRow r
 
   pub row_wide : is_one_of c wide_tokens ≡ true → Rows (Paired 37 4 2)
   unfolding row_bits paired_bits pair_bits wide_row pick sym_of long position later
@@ -206,7 +206,7 @@ module _ (n : List ℕ) (lo hi v : ℕ) (c : List ℕ) where
   unfolding in_range
   range_least e = leb-true lo v (and_left (leb lo v) (ltb v hi) (and_right (starts n c) (leb lo v && ltb v hi) e))
 
-no_rows : (c : List ℕ) → numbered_bits [] c ≡ none
+no_rows : (c : List ℕ) → numbered_bits [] c ≡ None
 unfolding numbered_bits
 no_rows c = refl
 
@@ -223,7 +223,7 @@ module _ (c : List ℕ) (v : ℕ) (h : hyphened c ≡ false) (e : v ≡ number_a
   unfolding counted_bits
   count_here n ns f =
       sym (numbered_here c n ns (sym (range_takes n) ∙ f)
-      ∙ ap (λ (x : ℕ). some (bits_of 6 (sym_of n.sym) ++ bits_of n.width (x - n.low))) (sym e))
+      ∙ ap (λ (x : ℕ). Some (bits_of 6 (sym_of n.sym) ++ bits_of n.width (x - n.low))) (sym e))
 
   -- what `numbered_of` tells
   abbrev Counts : Counted → Type 0
@@ -291,7 +291,7 @@ takes_plain n c e f =
     let bare = and_left (not (hyphened c)) range (and_right (starts n.name c) (not (hyphened c) && range) f) in
     rw (starts_both (ascii "AP") n.name c e named, bare)
 
-numbered_none : (ns : List Numbered) (c : List ℕ) → ap_names ns ≡ true → plain_ap c ≡ false → numbered_bits ns c ≡ none
+numbered_none : (ns : List Numbered) (c : List ℕ) → ap_names ns ≡ true → plain_ap c ≡ false → numbered_bits ns c ≡ None
 unfolding numbered_bits ap_names pick
 numbered_none [] c e f = refl
 numbered_none (n ∷ ns) c e f =
@@ -305,11 +305,11 @@ all_ap = refl
 
 -- ---- the bits of a call, in the order of the tables
 
-or_none : (o x : Option (List Bool)) → o ≡ none → or_else o x ≡ x
+or_none : (o x : Option (List Bool)) → o ≡ None → or_else o x ≡ x
 unfolding or_else
 or_none o x e = rw e
 
-or_some : (o x : Option (List Bool)) (b : List Bool) → o ≡ some b → or_else o x ≡ some b
+or_some : (o x : Option (List Bool)) (b : List Bool) → o ≡ Some b → or_else o x ≡ Some b
 unfolding or_else
 or_some o x b e = rw e
 
@@ -319,7 +319,7 @@ module _ (l : ℕ) (c : List ℕ) where
     unfolding counted_bits
     plain_uncounted q = or_none (numbered_bits numbered_rows c) (ap_bits l c) (sym e ∙ ap counted_bits q)
 
-    pub plain_counted : (i v w : ℕ) → r ≡ Count i v w → or_else (numbered_bits numbered_rows c) (ap_bits l c) ≡ some (bits_of 6 i ++ bits_of w v)
+    pub plain_counted : (i v w : ℕ) → r ≡ Count i v w → or_else (numbered_bits numbered_rows c) (ap_bits l c) ≡ Some (bits_of 6 i ++ bits_of w v)
     unfolding counted_bits
     plain_counted i v w q = or_some (numbered_bits numbered_rows c) (ap_bits l c) (bits_of 6 i ++ bits_of w v) (sym e ∙ ap counted_bits q)
 
@@ -336,19 +336,19 @@ module _ (l : ℕ) (c : List ℕ) where
     unfolding unpaired_bits coded_bits
     unpaired_unnamed q = or_none (fixed_bits fixed_rows c) (unnamed_bits l c) (sym e ∙ ap coded_bits q)
 
-    pub unpaired_fixed : (i : ℕ) → r ≡ Is i → unpaired_bits l c ≡ some (bits_of 6 i)
+    pub unpaired_fixed : (i : ℕ) → r ≡ Is i → unpaired_bits l c ≡ Some (bits_of 6 i)
     unfolding unpaired_bits coded_bits
     unpaired_fixed i q = or_some (fixed_bits fixed_rows c) (unnamed_bits l c) (bits_of 6 i) (sym e ∙ ap coded_bits q)
 
-  by_rows : token_bits l c ≡ or_else (pick (is_one_of c wide_tokens) (some (pair_bits wide_row c)) (pairs_bits pair_rows c)) (unpaired_bits l c)
+  by_rows : token_bits l c ≡ or_else (pick (is_one_of c wide_tokens) (Some (pair_bits wide_row c)) (pairs_bits pair_rows c)) (unpaired_bits l c)
   unfolding token_bits unpaired_bits unnamed_bits or_else pick
   by_rows = by_test (is_one_of c wide_tokens) (λ e. rw e) (λ e. rw e)
 
-  module _ (r : Row) (e : row_bits r c ≡ pick (is_one_of c wide_tokens) (some (pair_bits wide_row c)) (pairs_bits pair_rows c)) where
+  module _ (r : Row) (e : row_bits r c ≡ pick (is_one_of c wide_tokens) (Some (pair_bits wide_row c)) (pairs_bits pair_rows c)) where
     pub token_unpaired : r ≡ Unpaired → token_bits l c ≡ unpaired_bits l c
     unfolding row_bits
     token_unpaired q = by_rows ∙ or_none _ (unpaired_bits l c) (sym e ∙ ap (λ (x : Row). row_bits x c) q)
 
-    pub token_paired : (i k w : ℕ) → r ≡ Paired i k w → token_bits l c ≡ some (paired_bits i k w c)
+    pub token_paired : (i k w : ℕ) → r ≡ Paired i k w → token_bits l c ≡ Some (paired_bits i k w c)
     unfolding row_bits
     token_paired i k w q = by_rows ∙ or_some _ (unpaired_bits l c) (paired_bits i k w c) (sym e ∙ ap (λ (x : Row). row_bits x c) q)

@@ -3,7 +3,7 @@
 use mathlib.Core.Path.{◌≡◌, refl, sym, ap, subst, ◌∙◌}
 use mathlib.Core.Bool.{Bool, true, false}
 use mathlib.Core.List.{List, [], ◌∷◌, ◌++◌, map, append-nil}
-use mathlib.Core.Option.{Option, none, some}
+use Rattle.std.proofs.Common.{Option, None, Some}
 use Prim.Native.Nat.{ℕ, suc, ◌+◌, ◌*◌, ◌≤◌, ◌<◌, suc-le-suc}
 use native.Mathlib.Numerals.{add-one}
 use native.Mathlib.Omega.{arith}
@@ -32,7 +32,7 @@ use Rattle.ax25_token.proofs.Sizes.{spell_size}
 
 pub record Gave (o : Option (List Bool)) (b : List Bool) (at : ℕ) (c : List Bool) (p : ℕ) : Type 0 where
   pub bits : List Bool
-  pub is : o ≡ some bits
+  pub is : o ≡ Some bits
   pub wrote : Wrote b at bits c p
 
 module _ (b : List Bool) (at : ℕ) (c : List Bool) where
@@ -40,54 +40,54 @@ module _ (b : List Bool) (at : ℕ) (c : List Bool) where
   gave o t p e h = by o (subst (λ (u : Put). Puts b at o c u) e h)
     where
       by : (o : Option (List Bool)) → Puts b at o c (Next p) → Gave o b at c p
-      by none k = absurd k
-      by (some x) k = record { bits = x; is = refl; wrote = k }
+      by None k = absurd k
+      by (Some x) k = record { bits = x; is = refl; wrote = k }
 
-  pub bad : (o : Option (List Bool)) (t : Put) → t ≡ Bad → Puts b at o c t → o ≡ none
+  pub bad : (o : Option (List Bool)) (t : Put) → t ≡ Bad → Puts b at o c t → o ≡ None
   bad o t e h = by o (subst (λ (u : Put). Puts b at o c u) e h)
     where
-      by : (o : Option (List Bool)) → Puts b at o c Bad → o ≡ none
-      by none k = refl
-      by (some x) k = absurd k
+      by : (o : Option (List Bool)) → Puts b at o c Bad → o ≡ None
+      by None k = refl
+      by (Some x) k = absurd k
 
-  pub puts : {o : Option (List Bool)} (x : List Bool) (p : ℕ) → o ≡ some x → Wrote b at x c p → Puts b at o c (Next p)
+  pub puts : {o : Option (List Bool)} (x : List Bool) (p : ℕ) → o ≡ Some x → Wrote b at x c p → Puts b at o c (Next p)
   puts x p e w = rw e w
 
-  pub puts_none : {o : Option (List Bool)} → o ≡ none → Puts b at o c Bad
+  pub puts_none : {o : Option (List Bool)} → o ≡ None → Puts b at o c Bad
   puts_none e = rw e tt
 
 -- ---- an answer after bits
 
 pub puts_after : {b d : List Bool} {at q : ℕ} {x : List Bool} → Wrote b at x d q → (o : Option (List Bool)) (e : List Bool) (r : Put)
-    → Puts d q o e r → Puts b at (o >>= λ y. some (x ++ y)) e r
-puts_after w none e (Next n) h = h
-puts_after w none e Bad h = h
-puts_after w (some y) e (Next n) h = wrote_then w h
-puts_after w (some y) e Bad h = h
+    → Puts d q o e r → Puts b at (o >>= λ y. Some (x ++ y)) e r
+puts_after w None e (Next n) h = h
+puts_after w None e Bad h = h
+puts_after w (Some y) e (Next n) h = wrote_then w h
+puts_after w (Some y) e Bad h = h
 
 -- before bits
 pub puts_before : (b d e : List Bool) (at p q : ℕ) (z : List Bool) (o : Option (List Bool)) → Puts b at o d (Next p) → Wrote d p z e q
-    → Puts b at (o >>= λ y. some (y ++ z)) e (Next q)
-puts_before b d e at p q z none h w = absurd h
-puts_before b d e at p q z (some y) h w = wrote_then h w
+    → Puts b at (o >>= λ y. Some (y ++ z)) e (Next q)
+puts_before b d e at p q z None h w = absurd h
+puts_before b d e at p q z (Some y) h w = wrote_then h w
 
 -- between bits
 pub around : (b : List Bool) (at : ℕ) (d : List Bool) (p : ℕ) (x : List Bool) → Wrote b at x d p
     → (o : Option (List Bool)) (e : List Bool) (q : ℕ) → Puts d p o e (Next q)
-    → (z g : List Bool) (n : ℕ) → Wrote e q z g n → Puts b at (o >>= λ y. some (x ++ (y ++ z))) g (Next n)
-around b at d p x w none e q h z g n v = absurd h
-around b at d p x w (some y) e q h z g n v = wrote_then w (wrote_then h v)
+    → (z g : List Bool) (n : ℕ) → Wrote e q z g n → Puts b at (o >>= λ y. Some (x ++ (y ++ z))) g (Next n)
+around b at d p x w None e q h z g n v = absurd h
+around b at d p x w (Some y) e q h z g n v = wrote_then w (wrote_then h v)
 
 pub puts_bad : (b d e g : List Bool) (at p : ℕ) (f : List Bool → List Bool) (o : Option (List Bool)) → Puts d p o e Bad
-    → Puts b at (o >>= λ y. some (f y)) g Bad
-puts_bad b d e g at p f none h = h
-puts_bad b d e g at p f (some y) h = absurd h
+    → Puts b at (o >>= λ y. Some (f y)) g Bad
+puts_bad b d e g at p f None h = h
+puts_bad b d e g at p f (Some y) h = absurd h
 
 -- ---- the letters from a place on
 
 size_by : (b d : List Bool) (at p : ℕ) (xs : List ℕ) (o : Option (List Bool)) → spell xs ≡ o → Puts b at o d (Next p) → p ≡ at + 6 * length xs
-size_by b d at p xs none e h = absurd h
-size_by b d at p xs (some y) e h = omega (arith, h.next_is, spell_size xs y e)
+size_by b d at p xs None e h = absurd h
+size_by b d at p xs (Some y) e h = omega (arith, h.next_is, spell_size xs y e)
 
 pub letters_size : (b d : List Bool) (at p : ℕ) (f : ℕ → ℕ) (s : List ℕ) (t : Put) → t ≡ Next p → Puts b at (spell (map f s)) d t → p ≡ at + 6 * length s
 letters_size b d at p f s t q h =
@@ -99,10 +99,10 @@ module _ (f : ℕ → ℕ) (s : List ℕ) (i : ℕ) (b : List Bool) (p : ℕ) wh
   unfolding spell
   drop_end h = rw (drop_of_length-le s h) wrote_none
 
-  pub drop_bad : i < length s → alpha_of (f (get_or s i 0)) ≡ none → (d : List Bool) → Puts b p (spell (map f (drop i s))) d Bad
+  pub drop_bad : i < length s → alpha_of (f (get_or s i 0)) ≡ None → (d : List Bool) → Puts b p (spell (map f (drop i s))) d Bad
   drop_bad h e d = rw (drop-cons s i 0 h, spell_bad (f (get_or s i 0)) (map f (drop (suc i) s)) e) tt
 
-  pub drop_more : i < length s → (v : ℕ) → alpha_of (f (get_or s i 0)) ≡ some v → (q : ℕ) (d : List Bool) → Wrote b p (bits_of 6 v) d q
+  pub drop_more : i < length s → (v : ℕ) → alpha_of (f (get_or s i 0)) ≡ Some v → (q : ℕ) (d : List Bool) → Wrote b p (bits_of 6 v) d q
       → (e : List Bool) (r : Put) → Puts d q (spell (map f (drop (i + 1) s))) e r → Puts b p (spell (map f (drop i s))) e r
   unfolding spell
   drop_more h v a q d w e r k = rw (drop-cons s i 0 h, a) (puts_after w (spell (map f (drop (suc i) s))) e r (rw add-one at k))

@@ -3,7 +3,7 @@
 use mathlib.Core.Path.{◌≡◌, sym, ap, ◌∙◌}
 use mathlib.Core.Bool.{Bool, true, false}
 use mathlib.Core.List.{List, ◌∷◌, ◌++◌}
-use mathlib.Core.Option.{none, some}
+use Rattle.std.proofs.Common.{None, Some}
 use Prim.Native.Nat.{ℕ, ◌+◌, ◌≤◌, ◌<◌}
 use native.Mathlib.Omega.{arith}
 use lib.ListN.{drop}
@@ -49,12 +49,12 @@ module _ (b : List Bool) (at w : ℕ) where
   pub took_digits : (mended : Bool) → mended ≡ false → took_text w b at ≡ took_wide mended w b at
   took_digits mended e = ap (taken (at + w)) (sym (wide_text mended w (drop at b) e))
 
-  pub told_wide_short : (mended : Bool) → took_wide mended w b at ≡ Short → wide_number mended w (drop at b) ≡ none
+  pub told_wide_short : (mended : Bool) → took_wide mended w b at ≡ Short → wide_number mended w (drop at b) ≡ None
   unfolding wide_number pick
   told_wide_short true e = told_short b at w e
   told_wide_short false e = told_text_short b at w e
 
-  pub told_wide : (mended : Bool) (v q : ℕ) → took_wide mended w b at ≡ Bits v q → wide_number mended w (drop at b) ≡ some (v, drop q b)
+  pub told_wide : (mended : Bool) (v q : ℕ) → took_wide mended w b at ≡ Bits v q → wide_number mended w (drop at b) ≡ Some (v, drop q b)
   unfolding wide_number pick
   told_wide true v q e = told_bits b at w v q e
   told_wide false v q e = told_text b at w v q e

@@ -3,7 +3,8 @@
 use mathlib.Core.Path.{◌≡◌, refl, sym, ap}
 use mathlib.Core.Bool.{Bool, true, false, ◌&&◌, not}
 use mathlib.Core.List.{List, [], ◌∷◌, ◌++◌, map}
-use mathlib.Core.Option.{Option, none, some, some-injective, none-ne-some}
+use Rattle.std.proofs.Common.{Option, None, Some}
+use Rattle.std.proofs.lemmas.Option.{same_Some, none-some}
 use Prim.Native.Nat.{ℕ, suc, ◌+◌, ◌-◌, ◌*◌, ◌≤◌}
 use native.Mathlib.Omega.{arith}
 use lib.ListN.{length, drop, length-append, length-drop, length-map}
@@ -37,13 +38,13 @@ call_size t s = omega (arith, length-append t (suffix s), suffix_size s)
 -- ---- bits, if any, are at most n
 
 abbrev AtMost : ℕ → Option (List Bool) → Type 0
-AtMost n o = (b : List Bool) → o ≡ some b → length b ≤ n
+AtMost n o = (b : List Bool) → o ≡ Some b → length b ≤ n
 
-none_most : (n : ℕ) → AtMost n none
-none_most n b e = absurd (none-ne-some b e)
+none_most : (n : ℕ) → AtMost n None
+none_most n b e = absurd (none-some b e)
 
-some_most : (n : ℕ) (x : List Bool) → length x ≤ n → AtMost n (some x)
-some_most n x h b e = rw (some-injective x b e) at h
+some_most : (n : ℕ) (x : List Bool) → length x ≤ n → AtMost n (Some x)
+some_most n x h b e = rw (same_Some x b e) at h
 
 pick_most : (n : ℕ) (t : Bool) (o p : Option (List Bool)) → (t ≡ true → AtMost n o) → (t ≡ false → AtMost n p) → AtMost n (pick t o p)
 unfolding pick
@@ -52,8 +53,8 @@ pick_most n false o p f g = g refl
 
 or_most : (n : ℕ) (o p : Option (List Bool)) → AtMost n o → AtMost n p → AtMost n (or_else o p)
 unfolding or_else
-or_most n none p f g = g
-or_most n (some x) p f g = f
+or_most n None p f g = g
+or_most n (Some x) p f g = f
 
 -- ---- the tables
 
@@ -110,17 +111,17 @@ module _ (m : ℕ) (h : 2 ≤ m) (c : List ℕ) where
 
 -- ---- letters
 
-spell_by : (o : Option ℕ) (q : Option (List Bool)) (n : ℕ) → ((y : List Bool) → q ≡ some y → length y ≡ 6 * n)
-    → (b : List Bool) → (o >>= λ v. q >>= λ y. some (bits_of 6 v ++ y)) ≡ some b → length b ≡ 6 * suc n
-spell_by none q n f b e = absurd (none-ne-some b e)
-spell_by (some v) none n f b e = absurd (none-ne-some b e)
-spell_by (some v) (some y) n f b e =
-    omega (arith, ap length (some-injective (bits_of 6 v ++ y) b e), length-append (bits_of 6 v) y, length_bits 6 v, f y refl)
+spell_by : (o : Option ℕ) (q : Option (List Bool)) (n : ℕ) → ((y : List Bool) → q ≡ Some y → length y ≡ 6 * n)
+    → (b : List Bool) → (o >>= λ v. q >>= λ y. Some (bits_of 6 v ++ y)) ≡ Some b → length b ≡ 6 * suc n
+spell_by None q n f b e = absurd (none-some b e)
+spell_by (Some v) None n f b e = absurd (none-some b e)
+spell_by (Some v) (Some y) n f b e =
+    omega (arith, ap length (same_Some (bits_of 6 v ++ y) b e), length-append (bits_of 6 v) y, length_bits 6 v, f y refl)
 
 -- 6 bits a letter
-pub spell_size : (xs : List ℕ) (b : List Bool) → spell xs ≡ some b → length b ≡ 6 * length xs
+pub spell_size : (xs : List ℕ) (b : List Bool) → spell xs ≡ Some b → length b ≡ 6 * length xs
 unfolding spell
-spell_size [] b e = omega (arith, ap length (some-injective [] b e))
+spell_size [] b e = omega (arith, ap length (same_Some [] b e))
 spell_size (x ∷ xs) b e = spell_by (alpha_of x) (spell xs) (length xs) (spell_size xs) b e
 
 pub ending_size : (l n m : ℕ) → l ≤ m → n ≤ m → 6 * n + length (ending l n) ≤ 6 * m
@@ -129,16 +130,16 @@ ending_size l n m h k =
     (λ a. rw (ending_all l n a) (omega arith))
     (λ a. rw (ending_short l n a) (omega (arith, length_bits 6 0)))
 
-ap_by : (q : Option (List Bool)) (z : List Bool) (n m : ℕ) → ((y : List Bool) → q ≡ some y → length y ≡ 6 * n) → 6 + (6 * n + length z) ≤ m
-    → AtMost m (q >>= λ y. some (bits_of 6 (sym_of 59) ++ (y ++ z)))
-ap_by none z n m f h = none_most m
-ap_by (some y) z n m f h =
+ap_by : (q : Option (List Bool)) (z : List Bool) (n m : ℕ) → ((y : List Bool) → q ≡ Some y → length y ≡ 6 * n) → 6 + (6 * n + length z) ≤ m
+    → AtMost m (q >>= λ y. Some (bits_of 6 (sym_of 59) ++ (y ++ z)))
+ap_by None z n m f h = none_most m
+ap_by (Some y) z n m f h =
     some_most m (bits_of 6 (sym_of 59) ++ (y ++ z)) (simp (length-append, length_bits) (omega (arith, f y refl)))
 
-spelled_by : (q : Option (List Bool)) (z : List Bool) (n m : ℕ) → ((y : List Bool) → q ≡ some y → length y ≡ 6 * n) → 6 * n + length z ≤ m
-    → AtMost m (q >>= λ y. some (y ++ z))
-spelled_by none z n m f h = none_most m
-spelled_by (some y) z n m f h = some_most m (y ++ z) (omega (arith, f y refl, length-append y z))
+spelled_by : (q : Option (List Bool)) (z : List Bool) (n m : ℕ) → ((y : List Bool) → q ≡ Some y → length y ≡ 6 * n) → 6 * n + length z ≤ m
+    → AtMost m (q >>= λ y. Some (y ++ z))
+spelled_by None z n m f h = none_most m
+spelled_by (Some y) z n m f h = some_most m (y ++ z) (omega (arith, f y refl, length-append y z))
 
 module _ (l m : ℕ) (few : 2 ≤ l) (fits : l ≤ m) (c : List ℕ) (base : length (base_of c) ≤ m) where
   ap_most : starts (ascii "AP") c ≡ true → hyphened c ≡ false → AtMost (6 * m + 4) (ap_bits l c)
@@ -156,7 +157,7 @@ module _ (l m : ℕ) (few : 2 ≤ l) (fits : l ≤ m) (c : List ℕ) (base : len
       (omega (arith, length-map (base_of c) upper, length-append (ending l (length (base_of c))) (bits_of 4 (val_of (behind c))), length_bits 4 (val_of (behind c)), ending_size l (length (base_of c)) m fits base))
 
   -- a call takes at most 6 bits for each of m letters, no fewer than the call length, and 4 for the SSID
-  pub token_size : (b : List Bool) → token_bits l c ≡ some b → length b ≤ 6 * m + 4
+  pub token_size : (b : List Bool) → token_bits l c ≡ Some b → length b ≤ 6 * m + 4
   unfolding token_bits plain_ap
   token_size =
       let two : 2 ≤ m = omega arith in
@@ -170,10 +171,10 @@ module _ (l m : ℕ) (few : 2 ≤ l) (fits : l ≤ m) (c : List ℕ) (base : len
       (λ _. spelled_most)))))
 
 -- by the whole text: 58 bits for 9 bytes, 64 for 10, where the call length is 6 or 7
-pub token_size_text : (l m : ℕ) → 2 ≤ l → l ≤ m → (c : List ℕ) → length c ≤ m → (b : List Bool) → token_bits l c ≡ some b → length b ≤ 6 * m + 4
+pub token_size_text : (l m : ℕ) → 2 ≤ l → l ≤ m → (c : List ℕ) → length c ≤ m → (b : List Bool) → token_bits l c ≡ Some b → length b ≤ 6 * m + 4
 token_size_text l m few fits c h = token_size l m few fits c (omega (arith, base_short c))
 
 -- no more bytes than the call length, and an SSID: 40 bits, or 46
-pub token_size_call : (l : ℕ) → 2 ≤ l → (t : List ℕ) (s : ℕ) → length t ≤ l → (b : List Bool) → token_bits l (call_text t s) ≡ some b → length b ≤ 6 * l + 4
+pub token_size_call : (l : ℕ) → 2 ≤ l → (t : List ℕ) (s : ℕ) → length t ≤ l → (b : List Bool) → token_bits l (call_text t s) ≡ Some b → length b ≤ 6 * l + 4
 unfolding call_text
 token_size_call l few t s h = token_size l l few (omega arith) (t ++ suffix s) (omega (arith, base_suffix t s))

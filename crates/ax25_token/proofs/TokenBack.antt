@@ -4,7 +4,8 @@ use mathlib.Core.Path.{◌≡◌, refl, sym, ap, ap₂, subst, ◌∙◌}
 use mathlib.Core.Logic.{⊎_elim}
 use mathlib.Core.Bool.{Bool, true, false, ◌&&◌, ◌||◌, not, false≢true}
 use mathlib.Core.List.{List, [], ◌∷◌, ◌++◌, map, append_assoc}
-use mathlib.Core.Option.{Option, none, some, some-injective, none-ne-some}
+use Rattle.std.proofs.Common.{Option, None, Some}
+use Rattle.std.proofs.lemmas.Option.{same_Some, none-some}
 use Prim.Native.Nat.{ℕ, zero, suc, ◌+◌, ◌-◌, ◌*◌, ◌%◌, ◌^◌, ◌≤◌, ◌<◌, min}
 use native.Mathlib.Nat.{le_of_suc-le-suc, not-suc-le-zero, mod-eq_of_lt}
 use native.Mathlib.Omega.{arith}
@@ -30,12 +31,12 @@ use Rattle.ax25_token.proofs.Sizes.{pair_size, token_size_call}
 
 -- the bits x are read as the call c, whatever follows
 abbrev pub Reads : Bool → ℕ → List ℕ → List Bool → Type 0
-Reads mended l c x = (rest : List Bool) → read_token mended l (x ++ rest) ≡ some (c, rest)
+Reads mended l c x = (rest : List Bool) → read_token mended l (x ++ rest) ≡ Some (c, rest)
 
 -- the call c has bits, and they are read as d
 pub record Back (mended : Bool) (l : ℕ) (c d : List ℕ) : Type 0 where
   pub bits : List Bool
-  pub coded : token_bits l c ≡ some bits
+  pub coded : token_bits l c ≡ Some bits
   pub size : length bits ≤ 6 * l + 4
   pub read : Reads mended l d bits
 
@@ -48,7 +49,7 @@ index_back mended l i b h = rw (token_form mended l (bits_of 6 i ++ b) (i % 64) 
 wide_value : Bool → ℕ → ℕ → ℕ
 wide_value mended w v = pick mended (v % 2 ^ w) (val_of (map digit (bits_of w v)))
 
-wide_number_lem : (mended : Bool) (w v : ℕ) (rest : List Bool) → wide_number mended w (bits_of w v ++ rest) ≡ some (wide_value mended w v, rest)
+wide_number_lem : (mended : Bool) (w v : ℕ) (rest : List Bool) → wide_number mended w (bits_of w v ++ rest) ≡ Some (wide_value mended w v, rest)
 unfolding wide_number wide_value pick
 wide_number_lem true w v rest = take_bits_lem w v rest
 wide_number_lem false w v rest =
@@ -118,9 +119,9 @@ wide_misread l h = (wide_as false l _ _ h refl refl, wide_as false l _ _ h refl 
 -- ---- the rows of the tables
 
 -- which of the two a choice took
-chosen : (t : Bool) (b x : List Bool) (o : Option (List Bool)) (R : Type 0) → (t ≡ true → b ≡ x → R) → (o ≡ some x → R) → pick t (some b) o ≡ some x → R
+chosen : (t : Bool) (b x : List Bool) (o : Option (List Bool)) (R : Type 0) → (t ≡ true → b ≡ x → R) → (o ≡ Some x → R) → pick t (Some b) o ≡ Some x → R
 unfolding pick
-chosen true b x o R f g e = f refl (some-injective b x e)
+chosen true b x o R f g e = f refl (same_Some b x e)
 chosen false b x o R f g e = g e
 
 abbrev PairsRight : Bool → List Pair → Type 0
@@ -134,9 +135,9 @@ pairs_right true =
 pairs_right false =
     (((lit< tt, refl), refl), (((lit< tt, refl), refl), (((lit< tt, refl), refl), (((lit< tt, refl), refl), tt))))
 
-pairs_back : (mended : Bool) (l : ℕ) (ps : List Pair) → PairsRight mended ps → (c : List ℕ) (x : List Bool) → pairs_bits ps c ≡ some x → Reads mended l c x
+pairs_back : (mended : Bool) (l : ℕ) (ps : List Pair) → PairsRight mended ps → (c : List ℕ) (x : List Bool) → pairs_bits ps c ≡ Some x → Reads mended l c x
 unfolding pairs_bits
-pairs_back mended l [] h c x e = absurd (none-ne-some x e)
+pairs_back mended l [] h c x e = absurd (none-some x e)
 pairs_back mended l (p ∷ ps) h c x e =
     chosen (is_one_of c (pair_texts p.name)) (pair_bits p c) x (pairs_bits ps c) (Reads mended l c x)
     (λ t q. rw q at (row_back mended l p c h.0.0 (one_of_each (fits mended p) c (pair_texts p.name) h.0.1 t)))
@@ -152,9 +153,9 @@ unfolding fixed_rows pair_rows wide_row form_of symbol_form pair_form fixed_form
 fixed_right =
     ((lit< tt, refl), ((lit< tt, refl), ((lit< tt, refl), ((lit< tt, refl), ((lit< tt, refl), ((lit< tt, refl), ((lit< tt, refl), tt)))))))
 
-fixed_back : (mended : Bool) (l : ℕ) (fs : List Fixed) → FixedRight fs → (c : List ℕ) (x : List Bool) → fixed_bits fs c ≡ some x → Reads mended l c x
+fixed_back : (mended : Bool) (l : ℕ) (fs : List Fixed) → FixedRight fs → (c : List ℕ) (x : List Bool) → fixed_bits fs c ≡ Some x → Reads mended l c x
 unfolding fixed_bits read_form
-fixed_back mended l [] h c x e = absurd (none-ne-some x e)
+fixed_back mended l [] h c x e = absurd (none-some x e)
 fixed_back mended l (f ∷ fs) h c x e =
     let i = sym_of f.sym in
     chosen (same c f.name) (bits_of 6 i) x (fixed_bits fs c) (Reads mended l c x)
@@ -253,9 +254,9 @@ unfolding numbered_rows fixed_rows pair_rows wide_row form_of symbol_form pair_f
 numbered_right =
     ((lit< tt, refl, refl, lit≤ tt, lit≤ tt), ((lit< tt, refl, refl, lit≤ tt, lit≤ tt), ((lit< tt, refl, refl, lit≤ tt, lit≤ tt), tt)))
 
-numbered_back : (mended : Bool) (l : ℕ) (ns : List Numbered) → NumberedRight ns → (c : List ℕ) → (hyphened c ≡ false → Plain c) → (x : List Bool) → numbered_bits ns c ≡ some x → Reads mended l c x
+numbered_back : (mended : Bool) (l : ℕ) (ns : List Numbered) → NumberedRight ns → (c : List ℕ) → (hyphened c ≡ false → Plain c) → (x : List Bool) → numbered_bits ns c ≡ Some x → Reads mended l c x
 unfolding numbered_bits
-numbered_back mended l [] h c plain x e = absurd (none-ne-some x e)
+numbered_back mended l [] h c plain x e = absurd (none-some x e)
 numbered_back mended l (n ∷ ns) h c plain x e =
     let b = bits_of 6 (sym_of n.sym) ++ bits_of n.width (number_at c 4 2 - n.low) in
     chosen (takes n c) b x (numbered_bits ns c) (Reads mended l c x)
@@ -269,7 +270,7 @@ codes : List ℕ → List Bool
 codes [] = []
 codes (x ∷ xs) = bits_of 6 (alpha_code x) ++ codes xs
 
-spell_clean : (xs : List ℕ) → clean_letters xs ≡ true → spell xs ≡ some (codes xs)
+spell_clean : (xs : List ℕ) → clean_letters xs ≡ true → spell xs ≡ Some (codes xs)
 unfolding spell codes
 spell_clean [] e = refl
 spell_clean (x ∷ xs) e = rw ((clean_head x xs e).found, spell_clean xs (clean_rest x xs e))
@@ -290,7 +291,7 @@ unfolding letter_of pick
 letter_is x s = rw (ne_eqb (alpha_code x) 0 (λ q. omega (arith, s.low)), lt-ltb (alpha_code x) 37 s.high, s.back)
 
 letters_back : (strict : Bool) (k : ℕ) (xs : List ℕ) (rest : List Bool) → clean_letters xs ≡ true → length xs ≤ k
-    → read_letters strict k (codes xs ++ (ending k (length xs) ++ rest)) ≡ some (xs, rest)
+    → read_letters strict k (codes xs ++ (ending k (length xs) ++ rest)) ≡ Some (xs, rest)
 unfolding read_letters go_on after codes
 letters_back strict zero [] rest e l = rw (ending_all 0 0 (omega arith))
 letters_back strict zero (x ∷ xs) rest e l = absurd (not-suc-le-zero l)
@@ -304,11 +305,11 @@ letters_back strict (suc k) (x ∷ xs) rest e l =
 
 -- bits that are read as the call
 abbrev Has : Bool → ℕ → List ℕ → Option (List Bool) → Type 0
-Has mended l c o = (b : List Bool) × (o ≡ some b) × Reads mended l c b
+Has mended l c o = (b : List Bool) × (o ≡ Some b) × Reads mended l c b
 
 module _ (mended : Bool) (l : ℕ) (six : 6 ≤ l) where
   ap_read : (t : List ℕ) (rest : List Bool) → clean_letters t ≡ true → length t ≤ 4
-      → read_token mended l (bits_of 6 52 ++ (codes t ++ (ending (l - 2) (length t) ++ rest))) ≡ some (ascii "AP" ++ t, rest)
+      → read_token mended l (bits_of 6 52 ++ (codes t ++ (ending (l - 2) (length t) ++ rest))) ≡ Some (ascii "AP" ++ t, rest)
   unfolding read_form after
   ap_read t rest e h =
       rw (index_back mended l 52 (codes t ++ (ending (l - 2) (length t) ++ rest)) (lit< tt), form_ap 52 refl, letters_back true (l - 2) t rest e (omega arith))
@@ -324,11 +325,11 @@ module _ (mended : Bool) (l : ℕ) (six : 6 ≤ l) where
         rw end at (ap_whole l c (codes t) (spell_clean t clean)),
         λ rest.
             rw (append_assoc (bits_of 6 52) (codes t ++ z) rest, append_assoc (codes t) z rest, ap_read t rest clean (omega (arith, p.six, length-drop 2 c)))
-            (ap (λ (m : List ℕ). some (m, rest)) (sym text)),
+            (ap (λ (m : List ℕ). Some (m, rest)) (sym text)),
       )
 
   spelled_read : (x : ℕ) (xs : List ℕ) (s : ℕ) (rest : List Bool) → clean_letters (x ∷ xs) ≡ true → length xs ≤ 5 → s < 16
-      → read_token mended l (bits_of 6 (alpha_code x) ++ (codes xs ++ (ending (l - 1) (length xs) ++ (bits_of 4 s ++ rest)))) ≡ some (x ∷ (xs ++ suffix s), rest)
+      → read_token mended l (bits_of 6 (alpha_code x) ++ (codes xs ++ (ending (l - 1) (length xs) ++ (bits_of 4 s ++ rest)))) ≡ Some (x ∷ (xs ++ suffix s), rest)
   unfolding read_form read_spelled after
   spelled_read x xs s rest e h k =
       let i = clean_head x xs e in
@@ -340,7 +341,7 @@ module _ (mended : Bool) (l : ℕ) (six : 6 ≤ l) where
   spelled_back (x ∷ xs) s h =
       let c = x ∷ xs in
       let z = ending (l - 1) (length xs) in
-      let spelt : spell (map upper (base_of (call_text c s))) ≡ some (codes c) =
+      let spelt : spell (map upper (base_of (call_text c s))) ≡ Some (codes c) =
       rw (call_base c s h.clean, upper_clean c h.clean, spell_clean c h.clean) in (
         (bits_of 6 (alpha_code x) ++ codes xs) ++ (z ++ bits_of 4 s),
         rw (call_base c s h.clean, call_ssid c s h.clean h.small, ending_less 1 l (suc (length xs)) (l - 1) (length xs) (omega arith) (omega arith)) at (spelled_bits_lem l (call_text c s) (codes c) spelt),
@@ -356,10 +357,10 @@ unfolding pick
 choose mended l c true o p f g = f refl
 choose mended l c false o p f g = g refl
 
-first_or : (mended : Bool) (l : ℕ) (c : List ℕ) (o p : Option (List Bool)) → ((x : List Bool) → o ≡ some x → Reads mended l c x) → Has mended l c p → Has mended l c (or_else o p)
+first_or : (mended : Bool) (l : ℕ) (c : List ℕ) (o p : Option (List Bool)) → ((x : List Bool) → o ≡ Some x → Reads mended l c x) → Has mended l c p → Has mended l c (or_else o p)
 unfolding or_else
-first_or mended l c none p f g = g
-first_or mended l c (some b) p f g = (b, refl, f b refl)
+first_or mended l c None p f g = g
+first_or mended l c (Some b) p f g = (b, refl, f b refl)
 
 module _ (mended : Bool) (letters : List ℕ) (ssid : ℕ) (h : CleanCall mended letters ssid) where
   plain_call : hyphened (call_text letters ssid) ≡ false → Plain (call_text letters ssid)
@@ -460,10 +461,10 @@ form_same l begun b t = refl
 form_same l no_token b t = refl
 
 -- a token whose index is not that of WIDE, 37, is the same under both readings
-pub token_same : (l : ℕ) (b : List Bool) → ((r : List Bool) → take_bits 6 b ≡ some (37, r) → ⊥) → read_token true l b ≡ read_token false l b
+pub token_same : (l : ℕ) (b : List Bool) → ((r : List Bool) → take_bits 6 b ≡ Some (37, r) → ⊥) → read_token true l b ≡ read_token false l b
 token_same l b other =
     by_option (take_bits 6 b)
     (λ e. token_short true l b e ∙ sym (token_short false l b e))
     (λ p e.
-    let is : narrow (form_of p.0) ≡ true = form_narrow p.0 (λ q. other p.1 (e ∙ ap (λ (i : ℕ). some (i, p.1)) q)) in
+    let is : narrow (form_of p.0) ≡ true = form_narrow p.0 (λ q. other p.1 (e ∙ ap (λ (i : ℕ). Some (i, p.1)) q)) in
     token_form true l b p.0 p.1 e ∙ form_same l (form_of p.0) p.1 is ∙ sym (token_form false l b p.0 p.1 e))

@@ -1,7 +1,7 @@
 -- A call in 16 bytes, and what an answer of `token_decode` stands for.
 -- Assumes nothing.
 use Rattle.std.specs.Prelude.{Bool, List, [], ◌∷◌, ℕ, ◌+◌, take, drop, set, replicate}
-use Rattle.std.proofs.Math.Option.{Option, none, some}
+use Rattle.std.specs.Prelude.{Option, None, Some}
 use Rattle.bits.specs.Read.{taken}
 use Rattle.bits.specs.declared.read.Taken.{Taken}
 use Rattle.ax25_token.specs.Token.{wide_number, Form, spelled, paired, named, counted, begun, no_token}
@@ -27,21 +27,21 @@ appended c (b ∷ bs) = appended (pushed c b) bs
 
 -- an answer: the call, and the bits from the next position on
 unfoldable pub call_by : List Bool → Call → Token → Option (Call × List Bool)
-call_by b c (Next p) = some (c, drop p b)
-call_by b c Nothing = none
+call_by b c (Next p) = Some (c, drop p b)
+call_by b c Nothing = None
 
 unfoldable pub call_of : List Bool → Decoded → Option (Call × List Bool)
 call_of b r = call_by b r.call r.token
 
 -- its text instead of the call
 unfoldable pub texts : Option (Call × List Bool) → Option (List ℕ × List Bool)
-texts none = none
-texts (some p) = some (text_of p.0, p.1)
+texts None = None
+texts (Some p) = Some (text_of p.0, p.1)
 
 -- a reading, its text behind what a call holds
 unfoldable pub behind_call : Call → Option (List ℕ × List Bool) → Option (Call × List Bool)
-behind_call c none = none
-behind_call c (some p) = some (appended c p.0, p.1)
+behind_call c None = None
+behind_call c (Some p) = Some (appended c p.0, p.1)
 
 -- the name of a form that has one
 unfoldable pub form_name : Form → List ℕ

@@ -1,7 +1,7 @@
 -- What the answers of the coder of a call stand for.
 -- Assumes nothing.
 use Rattle.std.specs.Prelude.{Bool, ◌&&◌, List, [], ◌∷◌, ◌++◌, ℕ, ◌+◌, ◌≤◌, get_or, eqb, ltb, leb}
-use Rattle.std.proofs.Math.Option.{Option, none, some}
+use Rattle.std.specs.Prelude.{Option, None, Some}
 use Rattle.laws.specs.Bits.{num, bits_of}
 use Rattle.laws.specs.Pick.{pick}
 use Rattle.laws.specs.Text.{ascii, upper, starts}
@@ -19,8 +19,8 @@ use Rattle.ax25_token.specs.Token.{number_at, fixed_bits, numbered_bits, plain_a
 
 -- the code of a letter
 unfoldable pub code_view : Code → Option ℕ
-code_view (Is v) = some v
-code_view Nothing = none
+code_view (Is v) = Some v
+code_view Nothing = None
 
 -- a byte, in upper case where that is asked for
 unfoldable pub cased_of : Bool → ℕ → ℕ
@@ -28,10 +28,10 @@ cased_of up x = pick up (upper x) x
 
 -- where there are bits, they are written at a position and the answer is the next one; else a bad call, and nothing is said of what is left
 abbrev pub Puts : List Bool → ℕ → Option (List Bool) → List Bool → Put → Type 0
-Puts b at none d (Next p) = ⊥
-Puts b at none d Bad = Unit {0}
-Puts b at (some x) d (Next p) = Wrote b at x d p
-Puts b at (some x) d Bad = ⊥
+Puts b at None d (Next p) = ⊥
+Puts b at None d Bad = Unit {0}
+Puts b at (Some x) d (Next p) = Wrote b at x d p
+Puts b at (Some x) d Bad = ⊥
 
 -- what stands behind WIDE in WIDE_TOKENS
 unfoldable pub wide_ends : List (List ℕ)
@@ -45,8 +45,8 @@ paired_bits i k w c = bits_of 6 i ++ (bits_of 1 (num (eqb (get_or c k 0) 50)) ++
 
 -- the bits that a row of PAIRS stands for
 unfoldable pub row_bits : Row → List ℕ → Option (List Bool)
-row_bits (Paired i k w) c = some (paired_bits i k w c)
-row_bits Unpaired c = none
+row_bits (Paired i k w) c = Some (paired_bits i k w c)
+row_bits Unpaired c = None
 
 -- a name of at most 4 bytes, and a number of at most 2 bits
 abbrev pub SmallRow : Row → Type 0
@@ -55,13 +55,13 @@ SmallRow Unpaired = Unit {0}
 
 -- the bits that an index stands for
 unfoldable pub coded_bits : Code → Option (List Bool)
-coded_bits (Is v) = some (bits_of 6 v)
-coded_bits Nothing = none
+coded_bits (Is v) = Some (bits_of 6 v)
+coded_bits Nothing = None
 
 -- the bits that a row of NUMBERED stands for
 unfoldable pub counted_bits : Counted → Option (List Bool)
-counted_bits (Count i v w) = some (bits_of 6 i ++ bits_of w v)
-counted_bits Uncounted = none
+counted_bits (Count i v w) = Some (bits_of 6 i ++ bits_of w v)
+counted_bits Uncounted = None
 
 -- a number of at most 5 bits
 abbrev pub SmallCount : Counted → Type 0

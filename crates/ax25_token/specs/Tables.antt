@@ -1,7 +1,7 @@
 -- The tables of call tokens, as in the source.
 -- Assumes nothing.
 use Rattle.std.specs.Prelude.{List, [], ◌∷◌, ◌++◌, ℕ, ltb}
-use Rattle.std.proofs.Math.Option.{Option, none, some, get_or}
+use Rattle.std.specs.Prelude.{Option, None, Some, unwrap_or}
 use Prim.Native.Char.{Char, code}
 use Prim.Native.String.{String}
 use Rattle.laws.specs.Pick.{pick}
@@ -17,7 +17,7 @@ long = ascii " ABCDEFGHIJKLMNOPQRSTUVWXYZ0123456789!:#$%&'()*+,-./;"
 
 -- `sym`: the index of a symbol in LONG
 unfoldable pub sym_of : ℕ → ℕ
-sym_of s = get_or (position s long) 0
+sym_of s = unwrap_or (position s long) 0
 
 -- `alpha`: the code of a letter
 unfoldable pub alpha_of : ℕ → Option ℕ
@@ -45,7 +45,7 @@ letter_codes =
 
 -- "a byte's letter code or none": what an entry stands for
 unfoldable pub entry_code : ℕ → Option ℕ
-entry_code e = pick (ltb e 37) (some e) none
+entry_code e = pick (ltb e 37) (Some e) None
 
 -- WIDE_TOKENS
 unfoldable pub wide_tokens : List (List ℕ)

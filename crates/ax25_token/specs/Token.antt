@@ -1,7 +1,7 @@
 -- A call token: its bits (`token_encode`), and what is read from bits (`token_decode`).
 -- Assumes nothing.
 use Rattle.std.specs.Prelude.{Bool, true, false, ◌&&◌, ◌||◌, not, List, [], ◌∷◌, ◌++◌, map, ℕ, zero, suc, ◌+◌, ◌-◌, ◌/◌, ◌%◌, length, take, drop, get_or, eqb, ltb, leb}
-use Rattle.std.proofs.Math.Option.{Option, none, some}
+use Rattle.std.specs.Prelude.{Option, None, Some}
 use Rattle.std.proofs.Math.ListN.{get_elem?}
 use Rattle.laws.specs.Bits.{num, bits_of}
 use Rattle.laws.specs.Pick.{pick, ◌>>=◌}
@@ -49,29 +49,29 @@ pair_bits p c =
     ++ (bits_of 1 (num (eqb (get_or c p.digit 0) 50)) ++ bits_of p.width (number_at c p.number 1))
 
 unfoldable pub pairs_bits : List Pair → List ℕ → Option (List Bool)
-pairs_bits [] c = none
-pairs_bits (p ∷ ps) c = pick (is_one_of c (pair_texts p.name)) (some (pair_bits p c)) (pairs_bits ps c)
+pairs_bits [] c = None
+pairs_bits (p ∷ ps) c = pick (is_one_of c (pair_texts p.name)) (Some (pair_bits p c)) (pairs_bits ps c)
 
 unfoldable pub fixed_bits : List Fixed → List ℕ → Option (List Bool)
-fixed_bits [] c = none
-fixed_bits (f ∷ fs) c = pick (same c f.name) (some (bits_of 6 (sym_of f.sym))) (fixed_bits fs c)
+fixed_bits [] c = None
+fixed_bits (f ∷ fs) c = pick (same c f.name) (Some (bits_of 6 (sym_of f.sym))) (fixed_bits fs c)
 
 -- the row takes the call: its name, no hyphen, and a number in its range
 unfoldable pub takes : Numbered → List ℕ → Bool
 takes n c = starts n.name c && (not (hyphened c) && (leb n.low (number_at c 4 2) && ltb (number_at c 4 2) n.high))
 
 unfoldable pub numbered_bits : List Numbered → List ℕ → Option (List Bool)
-numbered_bits [] c = none
+numbered_bits [] c = None
 numbered_bits (n ∷ ns) c =
-    pick (takes n c) (some (bits_of 6 (sym_of n.sym) ++ bits_of n.width (number_at c 4 2 - n.low))) (numbered_bits ns c)
+    pick (takes n c) (Some (bits_of 6 (sym_of n.sym) ++ bits_of n.width (number_at c 4 2 - n.low))) (numbered_bits ns c)
 
 -- "6 bits a letter"
 unfoldable pub spell : List ℕ → Option (List Bool)
-spell [] = some []
+spell [] = Some []
 spell (x ∷ xs) = do
   v ← alpha_of x
   b ← spell xs
-  some (bits_of 6 v ++ b)
+  Some (bits_of 6 v ++ b)
 
 -- "0 ends a short one"
 unfoldable pub ending : ℕ → ℕ → List Bool
@@ -84,22 +84,22 @@ plain_ap c = starts (ascii "AP") c && not (hyphened c)
 unfoldable pub ap_bits : ℕ → List ℕ → Option (List Bool)
 ap_bits l c = do
   b ← spell (drop 2 c)
-  some (bits_of 6 (sym_of 59) ++ (b ++ ending l (length c)))
+  Some (bits_of 6 (sym_of 59) ++ (b ++ ending l (length c)))
 
 -- a spelled call, and "4 bits of SSID"
 unfoldable pub spelled_bits : ℕ → List ℕ → Option (List Bool)
 spelled_bits l c = do
   b ← spell (map upper (base_of c))
-  some (b ++ (ending l (length (base_of c)) ++ bits_of 4 (val_of (behind c))))
+  Some (b ++ (ending l (length (base_of c)) ++ bits_of 4 (val_of (behind c))))
 
 unfoldable pub or_else : Option (List Bool) → Option (List Bool) → Option (List Bool)
-or_else none o = o
-or_else (some b) o = some b
+or_else None o = o
+or_else (Some b) o = Some b
 
 -- in the source's order; l is the call length, 6 or 7
 unfoldable pub token_bits : ℕ → List ℕ → Option (List Bool)
 token_bits l c =
-    pick (is_one_of c wide_tokens) (some (pair_bits wide_row c))
+    pick (is_one_of c wide_tokens) (Some (pair_bits wide_row c))
     (or_else (pairs_bits pair_rows c)
     (or_else (fixed_bits fixed_rows c)
     (or_else (numbered_bits numbered_rows c)
@@ -109,8 +109,8 @@ token_bits l c =
 
 -- a name before what is read
 unfoldable pub after : List ℕ → Option (List ℕ × List Bool) → Option (List ℕ × List Bool)
-after n none = none
-after n (some p) = some (n ++ p.0, p.1)
+after n None = None
+after n (Some p) = Some (n ++ p.0, p.1)
 
 -- what an index of LONG stands for: a spelled call's first letter; a name with a digit and a number, or with nothing, or with a number;
 -- the letters AP; no token
@@ -135,8 +135,8 @@ numbered_form [] s f = f
 numbered_form (n ∷ ns) s f = pick (eqb n.sym s) (counted n.name n.low n.width) (numbered_form ns s f)
 
 unfoldable pub symbol_form : Option ℕ → Form
-symbol_form none = no_token
-symbol_form (some s) =
+symbol_form None = no_token
+symbol_form (Some s) =
     pair_form (wide_row ∷ pair_rows) s
     (fixed_form fixed_rows s
     (numbered_form numbered_rows s
@@ -156,13 +156,13 @@ unfoldable pub read_pair : Bool → ℕ → List Bool → Option (List ℕ × Li
 read_pair mended w b = do
   (d, r) ← take_bits 1 b
   (v, q) ← wide_number mended w r
-  some ((49 + d) ∷ suffix v, q)
+  Some ((49 + d) ∷ suffix v, q)
 
 -- a number of w bits, counted from a lowest
 unfoldable pub read_number : ℕ → ℕ → List Bool → Option (List ℕ × List Bool)
 read_number lo w b = do
   (v, r) ← take_bits w b
-  some (two_digits (v + lo), r)
+  Some (two_digits (v + lo), r)
 
 -- what a later code stands for: the blank, a letter, or neither
 pub data Letter : Type 0 where
@@ -176,14 +176,14 @@ letter_of v = pick (eqb v 0) blank (pick (ltb v 37) (letter (get_or call_alphabe
 -- "a call's reading ends early at a blank"; "a later letter of 37 or more is skipped in a spelled call and fatal in the AP form", which is
 -- read strictly
 unfoldable pub go_on : Bool → Letter → List Bool → Option (List ℕ × List Bool) → Option (List ℕ × List Bool)
-go_on strict blank r next = some ([], r)
+go_on strict blank r next = Some ([], r)
 go_on strict (letter x) r next = after (x ∷ []) next
-go_on true neither r next = none
+go_on true neither r next = None
 go_on false neither r next = next
 
 -- at most n letters
 unfoldable pub read_letters : Bool → ℕ → List Bool → Option (List ℕ × List Bool)
-read_letters strict zero b = some ([], b)
+read_letters strict zero b = Some ([], b)
 read_letters strict (suc n) b = do
   (v, r) ← take_bits 6 b
   go_on strict (letter_of v) r (read_letters strict n r)
@@ -193,15 +193,15 @@ unfoldable pub read_spelled : ℕ → List Bool → Option (List ℕ × List Boo
 read_spelled n b = do
   (t, r) ← read_letters false n b
   (v, q) ← take_bits 4 r
-  some (t ++ suffix v, q)
+  Some (t ++ suffix v, q)
 
 unfoldable pub read_form : Bool → ℕ → Form → List Bool → Option (List ℕ × List Bool)
 read_form mended l (spelled x) b = after (x ∷ []) (read_spelled (l - 1) b)
 read_form mended l (paired n w) b = after n (read_pair mended w b)
-read_form mended l (named n) b = some (n, b)
+read_form mended l (named n) b = Some (n, b)
 read_form mended l (counted n lo w) b = after n (read_number lo w b)
 read_form mended l begun b = after (ascii "AP") (read_letters true (l - 2) b)
-read_form mended l no_token b = none
+read_form mended l no_token b = None
 
 -- "A token starts with a 6-bit index into `LONG`". "The token reader's promise takes the choice, and so do all above it" (02, E5): the
 -- reading comes first among the arguments

@@ -1,6 +1,6 @@
 // The name that a call has: WIDE_TOKENS, PAIRS, FIXED and NUMBERED of the source, each row with its index in LONG.
 ghost use Rattle.std.specs.Prelude.{◌≡◌, false, drop, get_or, eqb};
-ghost use Rattle.std.proofs.Math.Option.{some};
+ghost use Rattle.std.specs.Prelude.{Some};
 ghost use Rattle.laws.specs.Bits.{num};
 ghost use Rattle.laws.specs.Pick.{pick};
 ghost use Rattle.laws.specs.Text.{is_one_of};
@@ -56,7 +56,7 @@ fn is_pair(c: &[u8], n: &[u8]) -> bool
 
 // The row of PAIRS that takes the call.
 pub(crate) fn pair_of(c: &[u8]) -> Row
-    ensures c_value { row_bits result c.now ≡ pick (is_one_of c.now wide_tokens) (some (pair_bits wide_row c.now)) (pairs_bits pair_rows c.now) }
+    ensures c_value { row_bits result c.now ≡ pick (is_one_of c.now wide_tokens) (Some (pair_bits wide_row c.now)) (pairs_bits pair_rows c.now) }
     ensures small_row { SmallRow result }
 {
     if is_wide(c) {

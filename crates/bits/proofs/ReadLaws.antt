@@ -3,7 +3,7 @@
 use mathlib.Core.Path.{◌≡◌, ◌∙◌}
 use mathlib.Core.Bool.{Bool, false}
 use mathlib.Core.List.{List, [], ◌∷◌, ◌++◌, map}
-use mathlib.Core.Option.{none, some}
+use Rattle.std.proofs.Common.{None, Some}
 use Prim.Native.Nat.{ℕ, zero, suc, ◌+◌, ◌-◌, ◌*◌, ◌%◌, ◌^◌, ◌≤◌, ◌<◌}
 use native.Mathlib.Nat.{le_of_suc-le-suc, pow-le-pow_right, not-suc-le-zero, pow-suc, mul_assoc}
 use native.Mathlib.Numerals.{add-one}
@@ -25,33 +25,33 @@ use Rattle.bits.proofs.ValLaws.{val_number}
 
 -- ---- taking bits
 
-pub take_yes : (n : ℕ) (b : List Bool) → n ≤ length b → take_bits n b ≡ some (value_of (take n b), drop n b)
+pub take_yes : (n : ℕ) (b : List Bool) → n ≤ length b → take_bits n b ≡ Some (value_of (take n b), drop n b)
 unfolding take_bits pick
 take_yes n b h = rw (le-leb n (length b) h)
 
-pub take_no : (n : ℕ) (b : List Bool) → length b < n → take_bits n b ≡ none
+pub take_no : (n : ℕ) (b : List Bool) → length b < n → take_bits n b ≡ None
 unfolding take_bits pick
 take_no n b h = rw (lt-leb n (length b) h)
 
 -- bits of a number in front are taken, whatever follows
-pub take_bits_lem : (n v : ℕ) (b : List Bool) → take_bits n (bits_of n v ++ b) ≡ some (v % 2 ^ n, b)
+pub take_bits_lem : (n v : ℕ) (b : List Bool) → take_bits n (bits_of n v ++ b) ≡ Some (v % 2 ^ n, b)
 take_bits_lem n v b =
     take_yes n (bits_of n v ++ b) (omega (arith, length-append (bits_of n v) b, length_bits n v))
     ∙ rw (take_at (bits_of n v) b n (length_bits n v), drop_at (bits_of n v) b n (length_bits n v), value_bits n v)
 
 -- what was written at a position is read there, and what follows is as it was
 pub take_written : (b : List Bool) (at n v : ℕ) → at + n ≤ length b
-    → take_bits n (drop at (sets b at (bits_of n v))) ≡ some (v % 2 ^ n, drop (at + n) b)
+    → take_bits n (drop at (sets b at (bits_of n v))) ≡ Some (v % 2 ^ n, drop (at + n) b)
 take_written b at n v h =
     rw (drop_stored b at (bits_of n v) (omega (arith, length_bits n v)), take_bits_lem n v (drop (at + length (bits_of n v)) b), length_bits n v)
 
 -- ---- bits as text
 
-pub text_yes : (n : ℕ) (b : List Bool) → n ≤ length b → take_text n b ≡ some (val_of (map letter (take n b)), drop n b)
+pub text_yes : (n : ℕ) (b : List Bool) → n ≤ length b → take_text n b ≡ Some (val_of (map letter (take n b)), drop n b)
 unfolding take_text pick
 text_yes n b h = rw (le-leb n (length b) h)
 
-pub text_no : (n : ℕ) (b : List Bool) → length b < n → take_text n b ≡ none
+pub text_no : (n : ℕ) (b : List Bool) → length b < n → take_text n b ≡ None
 unfolding take_text pick
 text_no n b h = rw (lt-leb n (length b) h)
 

@@ -3,7 +3,8 @@
 use mathlib.Core.Path.{◌≡◌, refl, sym, ap, ◌∙◌}
 use mathlib.Core.Bool.{Bool, true, false}
 use mathlib.Core.List.{List, map}
-use mathlib.Core.Option.{Option, none, some, some-injective, none-ne-some}
+use Rattle.std.proofs.Common.{Option, None, Some}
+use Rattle.std.proofs.lemmas.Option.{same_Some, none-some}
 use Prim.Native.Nat.{ℕ, suc, ◌+◌, ◌^◌, ◌≤◌, ◌<◌}
 use native.Mathlib.Nat.{lt_of_lt_of_le, pow-le-pow_right}
 use native.Mathlib.Omega.{arith}
@@ -23,8 +24,8 @@ use Rattle.bits.proofs.ValLaws.{val_lt}
 
 -- the number, and the bits from the next position on
 view : List Bool → Taken → Option (ℕ × List Bool)
-view b (Bits v q) = some (v, drop q b)
-view b Short = none
+view b (Bits v q) = Some (v, drop q b)
+view b Short = None
 
 -- the next position, counted from 1
 next : Taken → ℕ
@@ -38,7 +39,7 @@ next_at R t u at v q e h = h ∙ ap (λ (x : Taken). R (after_of x at)) e
 
 -- n bits from a position on are read as w
 abbrev Reads : List Bool → ℕ → ℕ → ℕ → Bool → Option (ℕ × List Bool)
-Reads b at n w t = pick t (some (w, drop n (drop at b))) none
+Reads b at n w t = pick t (Some (w, drop n (drop at b))) None
 
 is_view : (b : List Bool) (at n w : ℕ) (t : Bool) → Reads b at n w t ≡ view b (taken (at + n) (Reads b at n w t))
 unfolding view taken pick
@@ -46,19 +47,19 @@ is_view b at n w true = rw (drop-drop n at b)
 is_view b at n w false = refl
 
 read_is : (b : List Bool) (n w : ℕ) (t : Bool) (v : ℕ) (r : List Bool)
-    → pick {X = Option (ℕ × List Bool)} t (some (w, drop n b)) none ≡ some (v, r) → w ≡ v
+    → pick {X = Option (ℕ × List Bool)} t (Some (w, drop n b)) None ≡ Some (v, r) → w ≡ v
 unfolding pick
-read_is b n w true v r e = ap (λ (p : ℕ × List Bool). p.0) (some-injective (w, drop n b) (v, r) e)
-read_is b n w false v r e = absurd (none-ne-some (v, r) e)
+read_is b n w true v r e = ap (λ (p : ℕ × List Bool). p.0) (same_Some (w, drop n b) (v, r) e)
+read_is b n w false v r e = absurd (none-some (v, r) e)
 
 module _ (b : List Bool) (at n : ℕ) where
   -- bits as a number
-  pub told_short : taken (at + n) (take_bits n (drop at b)) ≡ Short → take_bits n (drop at b) ≡ none
+  pub told_short : taken (at + n) (take_bits n (drop at b)) ≡ Short → take_bits n (drop at b) ≡ None
   unfolding view take_bits
   told_short e = is_view b at n (value_of (take n (drop at b))) (leb n (length (drop at b))) ∙ ap (view b) e
 
   module _ (v q : ℕ) (e : taken (at + n) (take_bits n (drop at b)) ≡ Bits v q) where
-    pub told_bits : take_bits n (drop at b) ≡ some (v, drop q b)
+    pub told_bits : take_bits n (drop at b) ≡ Some (v, drop q b)
     unfolding view take_bits
     told_bits = is_view b at n (value_of (take n (drop at b))) (leb n (length (drop at b))) ∙ ap (view b) e
 
@@ -84,12 +85,12 @@ module _ (b : List Bool) (at n : ℕ) where
         rw (← m) (lt_of_lt_of_le (value_take_lt (drop at b) n) le)
 
   -- bits as decimal digits
-  pub told_text_short : taken (at + n) (take_text n (drop at b)) ≡ Short → take_text n (drop at b) ≡ none
+  pub told_text_short : taken (at + n) (take_text n (drop at b)) ≡ Short → take_text n (drop at b) ≡ None
   unfolding view take_text
   told_text_short e = is_view b at n (val_of (map letter (take n (drop at b)))) (leb n (length (drop at b))) ∙ ap (view b) e
 
   module _ (v q : ℕ) (e : taken (at + n) (take_text n (drop at b)) ≡ Bits v q) where
-    pub told_text : take_text n (drop at b) ≡ some (v, drop q b)
+    pub told_text : take_text n (drop at b) ≡ Some (v, drop q b)
     unfolding view take_text
     told_text = is_view b at n (val_of (map letter (take n (drop at b)))) (leb n (length (drop at b))) ∙ ap (view b) e
 

@@ -3,7 +3,7 @@
 use mathlib.Core.Path.{◌≡◌, refl, ap}
 use mathlib.Core.Bool.{Bool, true, false, not}
 use mathlib.Core.List.{List, [], ◌∷◌, ◌++◌, append_assoc}
-use mathlib.Core.Option.{some, none}
+use Rattle.std.proofs.Common.{Some, None}
 use Prim.Native.Nat.{ℕ, zero, suc, ◌+◌, ◌-◌, ◌*◌, ◌/◌, ◌%◌, ◌≤◌, ◌<◌, suc-le-suc}
 use native.Mathlib.Nat.{mod-eq_of_lt, le_trans, not-suc-le-zero}
 use native.Mathlib.Omega.{arith}
@@ -101,13 +101,13 @@ end_other p b k h e =
 
 -- ---- reading
 
-pub text7_none : (b : List Bool) (at : ℕ) → length b ≡ 0 → text7_of b at ≡ none
+pub text7_none : (b : List Bool) (at : ℕ) → length b ≡ 0 → text7_of b at ≡ None
 unfolding text7_of
 text7_none [] at h = refl
 text7_none (x ∷ b) at h = absurd (omega arith)
 
 pub text7_some : (b : List Bool) (at : ℕ) → 0 < length b
-    → text7_of b at ≡ some (numbers 7 ((end_of (get_or b (length b - 1) false) b - at) / 7) (drop at b))
+    → text7_of b at ≡ Some (numbers 7 ((end_of (get_or b (length b - 1) false) b - at) / 7) (drop at b))
 unfolding text7_of
 text7_some [] at h = absurd (not-suc-le-zero h)
 text7_some (x ∷ b) at h =
@@ -123,13 +123,13 @@ numbers_sevens (c ∷ cs) b h =
     rw (append_assoc (bits_of 7 c) (sevens cs) b, take_at (bits_of 7 c) (sevens cs ++ b) 7 (length_bits 7 c), drop_at (bits_of 7 c) (sevens cs ++ b) 7 (length_bits 7 c), value_bits, mod-eq_of_lt (h zero (omega arith)), numbers_sevens cs b (λ i k. h (suc i) (suc-le-suc k)))
 
 text7_run : (p : Bool) (b : List Bool) (k at : ℕ)
-    → text7_of (b ++ replicate (suc k) p) at ≡ some (numbers 7 ((end_of p b - at) / 7) (drop at (b ++ replicate (suc k) p)))
+    → text7_of (b ++ replicate (suc k) p) at ≡ Some (numbers 7 ((end_of p b - at) / 7) (drop at (b ++ replicate (suc k) p)))
 unfolding text7_of
 text7_run p [] k at = rw (last_run p k, end_pad p [] (suc k))
 text7_run p (x ∷ b) k at = rw (last_pad x p b k, end_pad p (x ∷ b) (suc k))
 
 -- a text written behind any bits is read from its place
-pub text7_back : (b : List Bool) (cs : List ℕ) → Sevens cs → text7_of (b ++ text7_bits (length b) (last_or false b) cs) (length b) ≡ some cs
+pub text7_back : (b : List Bool) (cs : List ℕ) → Sevens cs → text7_of (b ++ text7_bits (length b) (last_or false b) cs) (length b) ≡ Some cs
 unfolding text7_bits
 text7_back b cs h =
     let w = b ++ sevens cs in

@@ -1,7 +1,7 @@
 -- `Reader` of bits.rs, on the bits that are left.
 -- Assumes nothing.
 use Rattle.std.specs.Prelude.{◌≡◌, Bool, List, [], ◌∷◌, map, ℕ, zero, suc, ◌+◌, length, take, drop, leb}
-use Rattle.std.proofs.Math.Option.{Option, none, some}
+use Rattle.std.specs.Prelude.{Option, None, Some}
 use Rattle.laws.specs.Bits.{num, value_of}
 use Rattle.laws.specs.Pick.{pick}
 use Rattle.bits.specs.Val.{val_of}
@@ -11,7 +11,7 @@ use Rattle.bits.specs.declared.reader.Reader.{Reader}
 
 -- `take`: the first n bits as a number, and what is left; nothing where there are fewer
 unfoldable pub take_bits : ℕ → List Bool → Option (ℕ × List Bool)
-take_bits n b = pick (leb n (length b)) (some (value_of (take n b), drop n b)) none
+take_bits n b = pick (leb n (length b)) (Some (value_of (take n b), drop n b)) None
 
 -- the first k numbers of w bits each
 unfoldable pub numbers : ℕ → ℕ → List Bool → List ℕ
@@ -24,12 +24,12 @@ letter b = 48 + num b
 
 -- `text`, and `vb_val` of it: the number whose decimal digits the first n bits are
 unfoldable pub take_text : ℕ → List Bool → Option (ℕ × List Bool)
-take_text n b = pick (leb n (length b)) (some (val_of (map letter (take n b)), drop n b)) none
+take_text n b = pick (leb n (length b)) (Some (val_of (map letter (take n b)), drop n b)) None
 
 -- the answer at a position, with the next one
 unfoldable pub taken : ℕ → Option (ℕ × List Bool) → Taken
-taken next none = Short
-taken next (some p) = Bits p.0 next
+taken next None = Short
+taken next (Some p) = Bits p.0 next
 
 -- the answers of `take` and `text` at a position of all bits
 abbrev pub took : ℕ → List Bool → ℕ → Taken

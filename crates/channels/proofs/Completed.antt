@@ -3,7 +3,7 @@
 use mathlib.Core.Path.{◌≡◌, refl, sym, ap, ◌∙◌}
 use mathlib.Core.Bool.{Bool, true, false}
 use mathlib.Core.List.{List, [], ◌∷◌, ◌++◌, append-nil, append_assoc}
-use mathlib.Core.Option.{Option, some}
+use Rattle.std.proofs.Common.{Option, Some}
 use Prim.Native.Nat.{ℕ}
 use lib.ListN.{length}
 use borrow.Author.Tests.{not-true}
@@ -30,10 +30,10 @@ book_append b [] ps = refl
 book_append b (o ∷ os) ps = book_append (book_step b o) os ps
 
 -- a name that is entered is known
-known_entered : (n : List ℕ) (h : History) (es : List Entry) → has_room n es ≡ true → past_under n (entered n h es) ≡ some h
+known_entered : (n : List ℕ) (h : History) (es : List Entry) → has_room n es ≡ true → past_under n (entered n h es) ≡ Some h
 unfolding past_under
 known_entered n h es t =
-    ap (past_under n) (pick_true (record { name = n; past = h } ∷ without n es) es t) ∙ pick_true (some h) (past_under n (without n es)) (same_refl n)
+    ap (past_under n) (pick_true (record { name = n; past = h } ∷ without n es) es t) ∙ pick_true (Some h) (past_under n (without n es)) (same_refl n)
 
 module _ (n : List ℕ) where
   spared_by_keep : (o : List ℕ) (h : History) (es : List Entry) → same n o ≡ false → past_under n (entered o h es) ≡ past_under n es
@@ -41,7 +41,7 @@ module _ (n : List ℕ) where
   spared_by_keep o h es e =
       by_test (has_room o es)
       (λ t. ap (past_under n) (pick_true (record { name = o; past = h } ∷ without o es) es t)
-      ∙ pick_false (some h) (past_under n (without o es)) e
+      ∙ pick_false (Some h) (past_under n (without o es)) e
       ∙ known_other o n e es)
       (λ t. ap (past_under n) (pick_false (record { name = o; past = h } ∷ without o es) es t))
 
@@ -72,7 +72,7 @@ module _ (n : List ℕ) where
   unfolding book_after
   kept_current b os ok room e =
       let c = book_after (book_step b (keep n)) os in
-      let q : past_under n c.entries ≡ some b.current
+      let q : past_under n c.entries ≡ Some b.current
       = spared_all (book_step b (keep n)) os e
       ∙ ap (past_under n) (pick_true (entered n b.current b.entries) b.entries ok)
       ∙ known_entered n b.current b.entries room in

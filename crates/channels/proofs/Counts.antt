@@ -3,7 +3,8 @@
 use mathlib.Core.Path.{◌≡◌, refl, sym, ap, ◌∙◌}
 use mathlib.Core.Bool.{Bool, true, false, not}
 use mathlib.Core.List.{List, [], ◌∷◌}
-use mathlib.Core.Option.{none, some, none-ne-some}
+use Rattle.std.proofs.Common.{None, Some}
+use Rattle.std.proofs.lemmas.Option.{none-some}
 use Prim.Native.Nat.{ℕ, zero, suc, ◌+◌, ◌≤◌, ◌<◌}
 use native.Mathlib.Nat.{not-suc-le-zero, le_of_suc-le-suc, add-zero, add-suc, suc-add}
 use native.Mathlib.Omega.{arith}
@@ -32,33 +33,33 @@ module _ {A : Type 0} (p : A → Bool) where
 
   -- ---- the first place
 
-  pub none_count : (l : List A) (i : ℕ) → first_from p i l ≡ none → count l ≡ 0
+  pub none_count : (l : List A) (i : ℕ) → first_from p i l ≡ None → count l ≡ 0
   unfolding count first_from num
   none_count [] i e = refl
   none_count (x ∷ l) i e =
       by_test (p x)
-      (λ t. absurd (none-ne-some i (sym (sym (pick_true (some i) (first_from p (suc i) l) t) ∙ e))))
-      (λ t. omega (arith, ap num t, none_count l (suc i) (sym (pick_false (some i) (first_from p (suc i) l) t) ∙ e)))
+      (λ t. absurd (none-some i (sym (sym (pick_true (Some i) (first_from p (suc i) l) t) ∙ e))))
+      (λ t. omega (arith, ap num t, none_count l (suc i) (sym (pick_false (Some i) (first_from p (suc i) l) t) ∙ e)))
 
-  pub count_none : (l : List A) (i : ℕ) → count l ≡ 0 → first_from p i l ≡ none
+  pub count_none : (l : List A) (i : ℕ) → count l ≡ 0 → first_from p i l ≡ None
   unfolding count first_from num
   count_none [] i e = refl
   count_none (x ∷ l) i e =
       by_test (p x)
       (λ t. absurd (omega (arith, ap num t)))
-      (λ t. pick_false (some i) (first_from p (suc i) l) t ∙ count_none l (suc i) (omega arith))
+      (λ t. pick_false (Some i) (first_from p (suc i) l) t ∙ count_none l (suc i) (omega arith))
 
   -- where at most one passes, it is the first
-  pub first_once : (l : List A) (d : A) (i j : ℕ) → j < length l → p (get_or l j d) ≡ true → count l ≤ 1 → first_from p i l ≡ some (i + j)
+  pub first_once : (l : List A) (d : A) (i j : ℕ) → j < length l → p (get_or l j d) ≡ true → count l ≤ 1 → first_from p i l ≡ Some (i + j)
   unfolding count first_from num
   first_once [] d i j h e c = absurd (not-suc-le-zero h)
-  first_once (x ∷ l) d i zero h e c = pick_true (some i) (first_from p (suc i) l) e ∙ ap some (sym (add-zero i))
+  first_once (x ∷ l) d i zero h e c = pick_true (Some i) (first_from p (suc i) l) e ∙ ap Some (sym (add-zero i))
   first_once (x ∷ l) d i (suc j) h e c =
       by_test (p x)
       (λ t. absurd (omega (arith, ap num t, count_hit l j d (le_of_suc-le-suc h) e)))
-      (λ t. pick_false (some i) (first_from p (suc i) l) t
+      (λ t. pick_false (Some i) (first_from p (suc i) l) t
       ∙ first_once l d (suc i) j (le_of_suc-le-suc h) e (omega arith)
-      ∙ ap some (suc-add i j ∙ sym (add-suc i j)))
+      ∙ ap Some (suc-add i j ∙ sym (add-suc i j)))
 
   -- an element that does not pass for another that does not
   pub first_set : (l : List A) (i j : ℕ) (v d : A) → p (get_or l j d) ≡ false → p v ≡ false → first_from p i (set l j v) ≡ first_from p i l

@@ -3,7 +3,7 @@
 use mathlib.Core.Path.{◌≡◌, refl, ◌∙◌}
 use mathlib.Core.Bool.{true}
 use mathlib.Core.List.{List, [], ◌∷◌, ◌++◌}
-use mathlib.Core.Option.{some}
+use Rattle.std.proofs.Common.{Some}
 use Prim.Native.Nat.{ℕ}
 use lib.ListN.{length, replicate, length-replicate}
 use Rattle.laws.specs.Bits.{odd, num, bits_of, value_of}
@@ -51,14 +51,14 @@ begun = 0xC0 ∷ 0xAC ∷ 0xB7 ∷ 0x01 ∷ replicate 4996 0
 -- under F0; "net" is left with a message half heard, another channel is heard under F8 over the same store, and "net" is returned to
 pub left_and_back : List Row
 left_and_back =
-    row (call (push first 5)) (heard (some more))
+    row (call (push first 5)) (heard (Some more))
     ∷ row (keep (ascii "net")) (number 0)
     ∷ row (tune 0xF8 begun) nothing
-    ∷ row (call (push last 5)) (heard (some (done 4 (0x40 ∷ 0x00 ∷ 0x10 ∷ 0x40 ∷ []))))
-    ∷ row (call (push first 5)) (heard (some more))
+    ∷ row (call (push last 5)) (heard (Some (done 4 (0x40 ∷ 0x00 ∷ 0x10 ∷ 0x40 ∷ []))))
+    ∷ row (call (push first 5)) (heard (Some more))
     ∷ row (keep (ascii "fm")) (number 0)
     ∷ row (return_to (ascii "net")) (number 0)
-    ∷ row (call (push last 5)) (heard (some (done 7 (0x40 ∷ 0xAC ∷ 0xB7 ∷ 0x01 ∷ 0x00 ∷ 0x10 ∷ 0x40 ∷ []))))
+    ∷ row (call (push last 5)) (heard (Some (done 7 (0x40 ∷ 0xAC ∷ 0xB7 ∷ 0x01 ∷ 0x00 ∷ 0x10 ∷ 0x40 ∷ []))))
     ∷ []
 
 -- names come and go

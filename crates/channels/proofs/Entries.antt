@@ -3,7 +3,8 @@
 use mathlib.Core.Path.{◌≡◌, refl, sym, ap, ◌∙◌}
 use mathlib.Core.Bool.{Bool, false}
 use mathlib.Core.List.{List, [], ◌∷◌}
-use mathlib.Core.Option.{none, some, none-ne-some}
+use Rattle.std.proofs.Common.{None, Some}
+use Rattle.std.proofs.lemmas.Option.{none-some}
 use Prim.Native.Nat.{ℕ, ◌+◌, ◌≤◌}
 use native.Mathlib.Omega.{arith}
 use lib.ListN.{length}
@@ -19,7 +20,7 @@ abbrev pub named : List ℕ → Entry → Bool
 named n e = same n e.name
 
 module _ (n : List ℕ) where
-  pub known_gone : (es : List Entry) → past_under n (without n es) ≡ none
+  pub known_gone : (es : List Entry) → past_under n (without n es) ≡ None
   unfolding past_under without pick
   known_gone [] = refl
   known_gone (e ∷ es) = by_test (same n e.name) (λ t. rw t (known_gone es)) (λ t. rw t (rw t (known_gone es)))
@@ -53,27 +54,27 @@ module _ (n : List ℕ) where
       (λ t. rw t (omega (arith, count_other x es)))
       (λ t. rw t (omega (arith, count_other x es)))
 
-  pub none_known : (es : List Entry) → past_under n es ≡ none → count (named n) es ≡ 0
+  pub none_known : (es : List Entry) → past_under n es ≡ None → count (named n) es ≡ 0
   unfolding past_under count num
   none_known [] q = refl
   none_known (e ∷ es) q =
       by_test (same n e.name)
-      (λ t. absurd (none-ne-some e.past (sym (sym (pick_true (some e.past) (past_under n es) t) ∙ q))))
-      (λ t. omega (arith, ap num t, none_known es (sym (pick_false (some e.past) (past_under n es) t) ∙ q)))
+      (λ t. absurd (none-some e.past (sym (sym (pick_true (Some e.past) (past_under n es) t) ∙ q))))
+      (λ t. omega (arith, ap num t, none_known es (sym (pick_false (Some e.past) (past_under n es) t) ∙ q)))
 
-  pub some_known : (es : List Entry) (h : History) → past_under n es ≡ some h → 1 ≤ count (named n) es
+  pub some_known : (es : List Entry) (h : History) → past_under n es ≡ Some h → 1 ≤ count (named n) es
   unfolding past_under count num
-  some_known [] h q = absurd (none-ne-some h q)
+  some_known [] h q = absurd (none-some h q)
   some_known (e ∷ es) h q =
       by_test (same n e.name)
       (λ t. omega (arith, ap num t))
-      (λ t. omega (arith, some_known es h (sym (pick_false (some e.past) (past_under n es) t) ∙ q)))
+      (λ t. omega (arith, some_known es h (sym (pick_false (Some e.past) (past_under n es) t) ∙ q)))
 
-  pub without_unknown : (es : List Entry) → past_under n es ≡ none → without n es ≡ es
+  pub without_unknown : (es : List Entry) → past_under n es ≡ None → without n es ≡ es
   unfolding past_under without
   without_unknown [] q = refl
   without_unknown (e ∷ es) q =
       by_test (same n e.name)
-      (λ t. absurd (none-ne-some e.past (sym (sym (pick_true (some e.past) (past_under n es) t) ∙ q))))
+      (λ t. absurd (none-some e.past (sym (sym (pick_true (Some e.past) (past_under n es) t) ∙ q))))
       (λ t. pick_false (without n es) (e ∷ without n es) t
-      ∙ ap (λ (l : List Entry). e ∷ l) (without_unknown es (sym (pick_false (some e.past) (past_under n es) t) ∙ q)))
+      ∙ ap (λ (l : List Entry). e ∷ l) (without_unknown es (sym (pick_false (Some e.past) (past_under n es) t) ∙ q)))

@@ -4,7 +4,7 @@
 use mathlib.Core.Path.{◌≡◌, refl, subst}
 use mathlib.Core.Bool.{Bool, true}
 use mathlib.Core.List.{List, [], ◌∷◌, ◌++◌}
-use mathlib.Core.Option.{some}
+use Rattle.std.proofs.Common.{Some}
 use Prim.Native.Nat.{ℕ}
 use native.Mathlib.Omega.{arith}
 use lib.ListN.{length, take, drop}
@@ -67,6 +67,6 @@ module _ (mended : Bool) (m : ℕ) (ok : mask_ok m ≡ true) (other : ℕ) (s th
   few = omega arith
 
   -- the second is answered More, the third Done with the message
-  pub three_completed : run_of (world_after (world m s lent) journey).now (calls rest) ≡ some more ∷ some (done 5 three.message) ∷ []
+  pub three_completed : run_of (world_after (world m s lent) journey).now (calls rest) ≡ Some more ∷ Some (done 5 three.message) ∷ []
   unfolding lines_of lines_from count_of ceiling pick
   three_completed = (goes_on.delivers [] refl (three ∷ []) (lines_of m three ++ []) messages first rest uncut refl few).0

@@ -3,7 +3,8 @@
 use mathlib.Core.Path.{◌≡◌, refl, sym, ap, ap₂, ◌∙◌}
 use mathlib.Core.Bool.{Bool, true, false, false≢true, not}
 use mathlib.Core.List.{List, [], ◌∷◌}
-use mathlib.Core.Option.{Option, none, some, none-ne-some, some-injective}
+use Rattle.std.proofs.Common.{Option, None, Some}
+use Rattle.std.proofs.lemmas.Option.{none-some, same_Some}
 use Prim.Native.Nat.{ℕ, zero, suc, ◌+◌, ◌≤◌, ◌<◌}
 use native.Mathlib.Nat.{zero-add}
 use native.Mathlib.Omega.{arith}
@@ -98,8 +99,8 @@ fine_set (s ∷ ss) (suc i) v e f =
 -- ---- the shelf
 
 abbrev pub over : {A B : Type 0} → (A → B) → Option A → Option B
-over f none = none
-over f (some a) = some (f a)
+over f None = None
+over f (Some a) = Some (f a)
 
 -- the receiver in slot i with its bytes
 abbrev pub state_at : Kept → List ℕ → ℕ → State
@@ -117,7 +118,7 @@ pub record Shelf (k : Kept) (lent : List ℕ) (es : List Entry) : Type 0 where
   pub once : (x : List ℕ) → name_ok (length x) ≡ true → count (is_under x) k.slots ≤ 1
   pub single : (x : List ℕ) → count (named x) es ≤ 1
   pub used : count in_use k.slots ≡ length es
-  pub fair : (x : List ℕ) (h : History) → past_under x es ≡ some h → Fair h
+  pub fair : (x : List ℕ) (h : History) → past_under x es ≡ Some h → Fair h
 
 pub none_shelf : (lent : List ℕ) → length lent ≡ 40000 → Shelf none_kept lent []
 unfolding kept_refusal refusal_in count first_from is_under past_under pick num same
@@ -130,10 +131,10 @@ none_shelf lent e =
       once = λ x ok. none_once x (not_empty x ok).1;
       single = λ x. omega arith;
       used = refl;
-      fair = λ x h q. absurd (none-ne-some h q);
+      fair = λ x h q. absurd (none-some h q);
     }
   where
-    none_found : (x : List ℕ) → same x [] ≡ false → over (state_at none_kept lent) (place x none_kept) ≡ none
+    none_found : (x : List ℕ) → same x [] ≡ false → over (state_at none_kept lent) (place x none_kept) ≡ None
     none_found x o = rw o
 
     none_once : (x : List ℕ) → same x [] ≡ false → count (is_under x) none_kept.slots ≤ 1
@@ -145,7 +146,7 @@ module _ (k : Kept) (lent : List ℕ) (es : List Entry) (sh : Shelf k lent es) w
     pub small : i < 8
     pub hit : is_under n (get_or k.slots i free_slot) ≡ true
 
-  pub at_place : (n : List ℕ) (i : ℕ) → place n k ≡ some i → At n i
+  pub at_place : (n : List ℕ) (i : ℕ) → place n k ≡ Some i → At n i
   at_place n i e =
       let h = first_hit (is_under n) k.slots free_slot i e in
       record { small = omega (arith, h.small, sh.eight); hit = h.hit }
@@ -196,23 +197,23 @@ module _ (k : Kept) (lent : List ℕ) (es : List Entry) (sh : Shelf k lent es) w
       unfolding past_under
       found_same x e =
           let q = same_eq x n e in
-          let p : place x put ≡ some i =
+          let p : place x put ≡ Some i =
           ap (λ (y : List ℕ). place y put) q
           ∙ first_once (is_under n) put.slots free_slot 0 i (omega (arith, length-set k.slots i (slot_of n r), sh.eight)) hit_here alone
-          ∙ ap some (zero-add i) in
-          ap (over (state_at put stored)) p ∙ ap some (state_here ∙ now) ∙ sym (ap (over state_after) (pick_true (some h) (past_under x (without n es)) e))
+          ∙ ap Some (zero-add i) in
+          ap (over (state_at put stored)) p ∙ ap Some (state_here ∙ now) ∙ sym (ap (over state_after) (pick_true (Some h) (past_under x (without n es)) e))
 
       same_place : (x : List ℕ) → name_ok (length x) ≡ true → same x n ≡ false → place x put ≡ place x k
       same_place x o e = first_set (is_under x) k.slots 0 i (slot_of n r) free_slot (miss x o e) (under_slot x n r ok ∙ e)
 
       kept_there : (x : List ℕ) → name_ok (length x) ≡ true → same x n ≡ false → (o : Option ℕ) → place x k ≡ o → over (state_at put stored) o ≡ over (state_at k lent) o
-      kept_there x o e none p = refl
-      kept_there x o e (some j) p =
-          ap some (state_there j (λ q. false≢true (sym (miss x o e) ∙ ap (λ (m : ℕ). is_under x (get_or k.slots m free_slot)) (sym q) ∙ (at_place x j p).hit)))
+      kept_there x o e None p = refl
+      kept_there x o e (Some j) p =
+          ap Some (state_there j (λ q. false≢true (sym (miss x o e) ∙ ap (λ (m : ℕ). is_under x (get_or k.slots m free_slot)) (sym q) ∙ (at_place x j p).hit)))
 
       known_rest : (x : List ℕ) → same x n ≡ false → past_under x entries ≡ past_under x es
       unfolding past_under
-      known_rest x e = pick_false (some h) (past_under x (without n es)) e ∙ known_other n x e es
+      known_rest x e = pick_false (Some h) (past_under x (without n es)) e ∙ known_other n x e es
 
       found_other : (x : List ℕ) → name_ok (length x) ≡ true → same x n ≡ false → over (state_at put stored) (place x put) ≡ over state_after (past_under x entries)
       found_other x o e =
@@ -239,11 +240,11 @@ module _ (k : Kept) (lent : List ℕ) (es : List Entry) (sh : Shelf k lent es) w
           omega (arith, num_lt (same x n)))
           (λ e. omega (arith, ap num e, count_other n x es, sh.single x))
 
-      fair_put : (x : List ℕ) (g : History) → past_under x entries ≡ some g → Fair g
+      fair_put : (x : List ℕ) (g : History) → past_under x entries ≡ Some g → Fair g
       unfolding past_under
       fair_put x g q =
           by_test (same x n)
-          (λ e. let z : h ≡ g = some-injective h g (sym (pick_true (some h) (past_under x (without n es)) e) ∙ q) in rw (← z) f)
+          (λ e. let z : h ≡ g = same_Some h g (sym (pick_true (Some h) (past_under x (without n es)) e) ∙ q) in rw (← z) f)
           (λ e. sh.fair x g (sym (known_rest x e) ∙ q))
 
       pub put_shelf : count in_use put.slots ≡ suc (length (without n es)) → Shelf put stored entries
@@ -275,7 +276,7 @@ module _ (k : Kept) (lent : List ℕ) (es : List Entry) (sh : Shelf k lent es) w
     unfolding num
     none_under x o = ap num (under_free x free_slot o free_free)
 
-    gone : place n emptied ≡ none
+    gone : place n emptied ≡ None
     unfolding num
     gone = count_none (is_under n) emptied.slots 0 (omega (arith, counts (is_under n), none_under n ok, ap num here.hit, sh.once n ok))
 
@@ -283,9 +284,9 @@ module _ (k : Kept) (lent : List ℕ) (es : List Entry) (sh : Shelf k lent es) w
     not_here x e = under_other x n (get_or k.slots i free_slot) here.hit e
 
     left_there : (x : List ℕ) → same x n ≡ false → (o : Option ℕ) → place x k ≡ o → over (state_at emptied lent) o ≡ over (state_at k lent) o
-    left_there x e none p = refl
-    left_there x e (some j) p =
-        ap (λ (t : Slot). some (state (receiver_of t.receiver) (part_of lent j)))
+    left_there x e None p = refl
+    left_there x e (Some j) p =
+        ap (λ (t : Slot). Some (state (receiver_of t.receiver) (part_of lent j)))
         (get_or-set_other k.slots i j free_slot free_slot
         (λ q. false≢true (sym (not_here x e) ∙ ap (λ (m : ℕ). is_under x (get_or k.slots m free_slot)) (sym q) ∙ (at_place x j p).hit)))
 
@@ -300,13 +301,13 @@ module _ (k : Kept) (lent : List ℕ) (es : List Entry) (sh : Shelf k lent es) w
         ∙ sh.found x o
         ∙ ap (over state_after) (sym (known_other n x e es)))
 
-    fair_left : (x : List ℕ) (g : History) → past_under x (without n es) ≡ some g → Fair g
+    fair_left : (x : List ℕ) (g : History) → past_under x (without n es) ≡ Some g → Fair g
     fair_left x g q =
         by_test (same x n)
-        (λ e. absurd (none-ne-some g (sym (ap (λ (y : List ℕ). past_under y (without n es)) (same_eq x n e) ∙ known_gone n es) ∙ q)))
+        (λ e. absurd (none-some g (sym (ap (λ (y : List ℕ). past_under y (without n es)) (same_eq x n e) ∙ known_gone n es) ∙ q)))
         (λ e. sh.fair x g (sym (known_other n x e es) ∙ q))
 
-    pub free_shelf : (h : History) → past_under n es ≡ some h → Shelf emptied lent (without n es)
+    pub free_shelf : (h : History) → past_under n es ≡ Some h → Shelf emptied lent (without n es)
     unfolding num
     free_shelf h q =
         record {

@@ -3,7 +3,8 @@
 use mathlib.Core.Path.{◌≡◌, refl, sym, ap, ◌∙◌}
 use mathlib.Core.Bool.{true, false, ◌||◌, not}
 use mathlib.Core.List.{List}
-use mathlib.Core.Option.{Option, none, some, none-ne-some, some-injective}
+use Rattle.std.proofs.Common.{Option, None, Some}
+use Rattle.std.proofs.lemmas.Option.{none-some, same_Some}
 use Prim.Native.Nat.{ℕ, suc, ◌+◌, ◌≤◌, ◌<◌, max}
 use native.Mathlib.Omega.{arith}
 use lib.ListN.{length, get_or, set}
@@ -55,15 +56,15 @@ drops_as p q r t = rw (p, q, r) t
 
 -- two values that are there, or neither
 both : {A B C P : Type 0} (f : A → C) (g : B → C) (o : Option A) (q : Option B) → over f o ≡ over g q
-    → (o ≡ none → q ≡ none → P) → ((a : A) (b : B) → o ≡ some a → q ≡ some b → f a ≡ g b → P) → P
-both f g none none e x y = x refl refl
-both f g none (some b) e x y = absurd (none-ne-some (g b) e)
-both f g (some a) none e x y = absurd (none-ne-some (f a) (sym e))
-both f g (some a) (some b) e x y = y a b refl refl (some-injective (f a) (g b) e)
+    → (o ≡ None → q ≡ None → P) → ((a : A) (b : B) → o ≡ Some a → q ≡ Some b → f a ≡ g b → P) → P
+both f g None None e x y = x refl refl
+both f g None (Some b) e x y = absurd (none-some (g b) e)
+both f g (Some a) None e x y = absurd (none-some (f a) (sym e))
+both f g (Some a) (Some b) e x y = y a b refl refl (same_Some (f a) (g b) e)
 
 module _ (k : Kept) (lent : List ℕ) (es : List Entry) (sh : Shelf k lent es) (n : List ℕ) where
-  by_name : {P : Type 0} → name_ok (length n) ≡ true → (place n k ≡ none → past_under n es ≡ none → P)
-      → ((i : ℕ) (g : History) → place n k ≡ some i → past_under n es ≡ some g → state_at k lent i ≡ state_after g → P) → P
+  by_name : {P : Type 0} → name_ok (length n) ≡ true → (place n k ≡ None → past_under n es ≡ None → P)
+      → ((i : ℕ) (g : History) → place n k ≡ Some i → past_under n es ≡ Some g → state_at k lent i ≡ state_after g → P) → P
   by_name ok f g = both (state_at k lent) state_after (place n k) (past_under n es) (sh.found n ok) f g
 
   slots_sum : count is_free k.slots + count in_use k.slots ≡ length k.slots
@@ -84,7 +85,7 @@ module _ (k : Kept) (lent : List ℕ) (es : List Entry) (sh : Shelf k lent es) (
           → ((x : List ℕ) → name_ok (length x) ≡ true → same x n ≡ false → is_under x (get_or k.slots i free_slot) ≡ false)
           → count (is_under n) (set k.slots i (slot_of n r)) ≤ 1
           → count in_use (set k.slots i (slot_of n r)) ≡ suc (length (without n es))
-          → Done (some i)
+          → Done (Some i)
       stores i small t miss alone u =
           keeps_as refl (pick_true _ es t) (pick_true 0 21 t)
           (record { shelf = put_shelf k lent es sh n h r s ok g f now i small miss alone u; says = refl })
@@ -97,7 +98,7 @@ module _ (k : Kept) (lent : List ℕ) (es : List Entry) (sh : Shelf k lent es) (
       unfolding num
       one_used = ap num (slot_used n r ok)
 
-      again : (i : ℕ) (g : History) → place n k ≡ some i → past_under n es ≡ some g → Done (some i)
+      again : (i : ℕ) (g : History) → place n k ≡ Some i → past_under n es ≡ Some g → Done (Some i)
       unfolding num
       again i g p q =
           let here = at_place k lent es sh n i p in
@@ -108,10 +109,10 @@ module _ (k : Kept) (lent : List ℕ) (es : List Entry) (sh : Shelf k lent es) (
           (omega (arith, count_set (is_under n) k.slots i (slot_of n r) free_slot fits, ap num here.hit, one_here, sh.once n ok))
           (omega (arith, count_set in_use k.slots i (slot_of n r) free_slot fits, ap num (ap not (under_used n old ok here.hit)), one_used, sh.used, length_without n es, some_known n es g q, sh.single n))
 
-      room_is : past_under n es ≡ none → has_room n es ≡ ltb (length es) 8
+      room_is : past_under n es ≡ None → has_room n es ≡ ltb (length es) 8
       room_is q = ap (λ (o : Option History). is_some o || ltb (length es) 8) q
 
-      fresh : (i : ℕ) → first_from is_free 0 k.slots ≡ some i → place n k ≡ none → past_under n es ≡ none → Done (some i)
+      fresh : (i : ℕ) → first_from is_free 0 k.slots ≡ Some i → place n k ≡ None → past_under n es ≡ None → Done (Some i)
       unfolding num
       fresh i e p q =
           let here = first_hit is_free k.slots free_slot i e in
@@ -123,7 +124,7 @@ module _ (k : Kept) (lent : List ℕ) (es : List Entry) (sh : Shelf k lent es) (
           (omega (arith, count_set (is_under n) k.slots i (slot_of n r) free_slot here.small, none_count (is_under n) k.slots 0 p, one_here))
           (omega (arith, count_set in_use k.slots i (slot_of n r) free_slot here.small, ap num (ap not here.hit), one_used, sh.used, length_without n es, none_known n es q))
 
-      none_left : first_from is_free 0 k.slots ≡ none → past_under n es ≡ none → Done none
+      none_left : first_from is_free 0 k.slots ≡ None → past_under n es ≡ None → Done None
       none_left e q =
           let t : has_room n es ≡ false =
           room_is q ∙ le-ltb (length es) 8 (omega (arith, slots_sum, none_count is_free k.slots 0 e, sh.used, sh.eight)) in

@@ -1,7 +1,7 @@
 -- Lists of operations on a receiver and kept states: document 02, E8. What they leave, and a book of histories that knows no slots and no bytes.
 -- Assumes nothing.
 use Rattle.std.specs.Prelude.{Bool, true, false, ◌&&◌, ◌||◌, not, List, [], ◌∷◌, ◌++◌, ℕ, length, ltb, eqb}
-use Rattle.std.proofs.Math.Option.{Option, none, some}
+use Rattle.std.specs.Prelude.{Option, None, Some}
 use Rattle.laws.specs.Pick.{pick}
 use Rattle.laws.specs.Text.{same}
 use Rattle.refusals.specs.Limits.{mask_ok}
@@ -108,8 +108,8 @@ book m s = record { current = history m s []; entries = [] }
 
 -- The history that is kept under a name.
 unfoldable pub past_under : List ℕ → List Entry → Option History
-past_under name [] = none
-past_under name (e ∷ es) = pick (same name e.name) (some e.past) (past_under name es)
+past_under name [] = None
+past_under name (e ∷ es) = pick (same name e.name) (Some e.past) (past_under name es)
 
 -- The entries under other names.
 unfoldable pub without : List ℕ → List Entry → List Entry
@@ -118,8 +118,8 @@ without name (e ∷ es) = pick (same name e.name) (without name es) (e ∷ witho
 
 -- Whether there is one.
 abbrev pub is_some : {A : Type 0} → Option A → Bool
-is_some none = false
-is_some (some a) = true
+is_some None = false
+is_some (Some a) = true
 
 -- A name that is known, or a new one where fewer than eight are.
 abbrev pub has_room : List ℕ → List Entry → Bool
@@ -131,8 +131,8 @@ entered name h es = pick (has_room name es) (record { name = name; past = h } �
 
 -- The history that is kept, or the one that was current.
 abbrev pub known_or : Option History → History → History
-known_or none h = h
-known_or (some g) h = g
+known_or None h = h
+known_or (Some g) h = g
 
 -- One operation. A call goes after the history, a return makes the kept history the current one: "the history up to the keeping followed by
 -- the calls since the return". A name of another length changes nothing.

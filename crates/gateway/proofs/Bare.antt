@@ -1,7 +1,7 @@
 -- The receiver without its tallies, over lists of calls.
 -- Assumes nothing.
 use mathlib.Core.List.{List, [], ◌∷◌}
-use mathlib.Core.Option.{Option, none, some}
+use Rattle.std.proofs.Common.{Option, None, Some}
 use Prim.Native.Nat.{ℕ}
 use Rattle.receiver.specs.Join.{Heard, After, reset_of, join_of}
 use Rattle.receiver.specs.Push.{push_of}
@@ -20,12 +20,12 @@ pub record BareStep : Type 0 where
   pub next : Bare
 
 abbrev pub bare_seen : After Joiner → BareStep
-bare_seen a = record { answer = some a.heard; next = bare a.receiver a.store }
+bare_seen a = record { answer = Some a.heard; next = bare a.receiver a.store }
 
 abbrev pub bare_step : Bare → Call → BareStep
 bare_step t (push f field) = bare_seen (push_of t.receiver t.store f field)
 bare_step t (join f n) = bare_seen (join_of t.receiver t.store f n)
-bare_step t reset = record { answer = none; next = bare (reset_of t.receiver) t.store }
+bare_step t reset = record { answer = None; next = bare (reset_of t.receiver) t.store }
 
 unfoldable pub bare_run : Bare → List Call → List (Option Heard)
 bare_run t [] = []

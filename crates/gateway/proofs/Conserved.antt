@@ -2,7 +2,7 @@
 -- Assumes nothing.
 use mathlib.Core.Path.{◌≡◌, refl, ap, ◌∙◌}
 use mathlib.Core.List.{List, [], ◌∷◌}
-use mathlib.Core.Option.{Option, none, some}
+use Rattle.std.proofs.Common.{Option, None, Some}
 use Prim.Native.Nat.{ℕ, ◌+◌}
 use native.Mathlib.Nat.{zero-add}
 use native.Mathlib.Omega.{arith}
@@ -42,8 +42,8 @@ refused_none (drops c) n = refl
 
 -- what a call adds
 abbrev pub heard_one : Tally → Option Heard → ℕ
-heard_one i none = 0
-heard_one i (some h) = num (is_counted_by i h)
+heard_one i None = 0
+heard_one i (Some h) = num (is_counted_by i h)
 
 -- ---- a list of calls
 
@@ -88,8 +88,8 @@ module _ (i : Tally) where
       one_more : (a : Option Heard) → number_in i (step_of t c).next.receiver.tallies ≡ number_in i t.receiver.tallies + heard_one i a
           → number_in i (step_of t c).next.receiver.tallies + how_many (is_counted_by i) (run_of (step_of t c).next cs)
           ≡ number_in i t.receiver.tallies + how_many (is_counted_by i) (a ∷ run_of (step_of t c).next cs)
-      one_more none e = unfold how_many in omega arith
-      one_more (some h) e = unfold how_many in omega arith
+      one_more None e = unfold how_many in omega arith
+      one_more (Some h) e = unfold how_many in omega arith
 
   pub none_yet : number_in i no_tallies ≡ 0
   none_yet = each i
@@ -132,8 +132,8 @@ one_of_seven (done n b) = refl
 all_of_seven : (l : List (Option Heard)) → how_many is_offered l ≡ parts (λ i. how_many (is_counted_by i) l)
 unfolding how_many
 all_of_seven [] = refl
-all_of_seven (none ∷ l) = all_of_seven l
-all_of_seven (some h ∷ l) = omega (arith, one_of_seven h, all_of_seven l)
+all_of_seven (None ∷ l) = all_of_seven l
+all_of_seven (Some h ∷ l) = omega (arith, one_of_seven h, all_of_seven l)
 
 -- the tallies that calls leave add up
 pub conserved : (m : ℕ) (s : List ℕ) (cs : List Call) →

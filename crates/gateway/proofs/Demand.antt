@@ -3,7 +3,7 @@
 use mathlib.Core.Path.{◌≡◌, refl, sym, ap, ap₂, ◌∙◌, subst}
 use mathlib.Core.Bool.{Bool, true}
 use mathlib.Core.List.{List, [], ◌∷◌, ◌++◌}
-use mathlib.Core.Option.{Option, some}
+use Rattle.std.proofs.Common.{Option, Some}
 use Prim.Native.Nat.{ℕ, zero, suc, ◌+◌, ◌≤◌, ◌<◌}
 use native.Mathlib.Nat.{zero-add}
 use native.Mathlib.Omega.{arith}
@@ -62,7 +62,7 @@ module _ (m : ℕ) (x : Sending) (s : Sendable x.message x.field m) where
       = same_answer_lem (sym b ∙ (build_accepted x.field f (x.control k) (x.marker k) (accepted_is b)).is)
       ∙ ap (λ (y : List ℕ). frame_of x.field y (x.control k) (x.marker k)) (fragment_is k a) in
       ap₂ {A = Line} {B = List Line} (λ p ps. p ∷ ps)
-      (ap₂ (λ (y : List ℕ) (j : ℕ). line (push y x.field) (some (answer_before j x.message))) h l) i
+      (ap₂ (λ (y : List ℕ) (j : ℕ). line (push y x.field) (Some (answer_before j x.message))) h l) i
 
   builds : {k : ℕ} {ls : List Line} → Frames m x k ls → (j : ℕ) → k ≤ j → j < count_in x
       → accepted (build_of x.field (fragment_of x.message x.field m j) (x.control j) (x.marker j)) ≡ true

@@ -4,7 +4,7 @@
 use mathlib.Core.Path.{◌≡◌, refl}
 use mathlib.Core.Bool.{Bool, true, false, ◌&&◌}
 use mathlib.Core.List.{List, [], ◌∷◌, ◌++◌, map}
-use mathlib.Core.Option.{Option, none, some}
+use Rattle.std.proofs.Common.{Option, None, Some}
 use Prim.Native.Nat.{ℕ, zero, suc, ◌+◌, ◌%◌}
 use Prim.Native.String.{String}
 use lib.Bits.{bit_and}
@@ -373,13 +373,13 @@ gives_lengths m field mask k [] = is_refused (send_of m field mask k) 13
 gives_lengths m field mask k (n ∷ ns) = gives_length (send_of m field mask k) n && gives_lengths m field mask (suc k) ns
 
 gives_bits : Option (List Bool) → List ℕ → Bool
-gives_bits none t = false
-gives_bits (some b) t = same (map letter b) t
+gives_bits None t = false
+gives_bits (Some b) t = same (map letter b) t
 
 gives_call : Option (List ℕ × List Bool) → List ℕ → Bool
-gives_call none c = false
-gives_call (some (t, [])) c = same t c
-gives_call (some (t, x ∷ b)) c = false
+gives_call None c = false
+gives_call (Some (t, [])) c = same t c
+gives_call (Some (t, x ∷ b)) c = false
 
 pub holds : Edge → Bool
 holds (codes command d m) = gives_message (code_of command d) m

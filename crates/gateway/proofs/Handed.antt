@@ -3,7 +3,7 @@
 use mathlib.Core.Path.{◌≡◌, refl, sym, ap, ◌∙◌}
 use mathlib.Core.Bool.{Bool, true, false}
 use mathlib.Core.List.{List, [], ◌∷◌, ◌++◌}
-use mathlib.Core.Option.{Option, none, some}
+use Rattle.std.proofs.Common.{Option, None, Some}
 use Prim.Native.Nat.{ℕ, zero, suc, ◌+◌, ◌≤◌}
 use native.Mathlib.Nat.{not-suc-le-zero}
 use native.Mathlib.Omega.{arith}
@@ -49,18 +49,18 @@ handed_idle : (c : Call) (rest : List (Option Heard)) → handed (idle_answer c 
 unfolding pick
 handed_idle (push f k) rest = cases (field_ok k)
   where
-    cases : (o : Bool) → handed (some (pick o (dropped (pick (eqb (length f) (k + 3)) NoFragment WrongLength)) (refused 8)) ∷ rest) ≡ handed rest
+    cases : (o : Bool) → handed (Some (pick o (dropped (pick (eqb (length f) (k + 3)) NoFragment WrongLength)) (refused 8)) ∷ rest) ≡ handed rest
     cases true = refl
     cases false = refl
 handed_idle (join f n) rest = refl
 handed_idle reset rest = refl
 
 handed_first : (a : Option Heard) (s t : List (Option Heard)) → handed s ≡ handed t → handed (a ∷ s) ≡ handed (a ∷ t)
-handed_first (some (refused n)) s t e = e
-handed_first (some (dropped c)) s t e = e
-handed_first (some more) s t e = e
-handed_first (some (done n b)) s t e = ap (λ (r : List (List ℕ)). b ∷ r) e
-handed_first none s t e = e
+handed_first (Some (refused n)) s t e = e
+handed_first (Some (dropped c)) s t e = e
+handed_first (Some more) s t e = e
+handed_first (Some (done n b)) s t e = ap (λ (r : List (List ℕ)). b ∷ r) e
+handed_first None s t e = e
 
 handed_mixed : {ps ls : List Line} → Mixed ps ls → handed (answers ls) ≡ handed (answers ps)
 handed_mixed finished = refl

@@ -5,7 +5,7 @@
 use mathlib.Core.Path.{◌≡◌, refl, sym, ap, ◌∙◌}
 use mathlib.Core.Bool.{Bool, true, false, false≢true, ◌&&◌, ◌||◌, not}
 use mathlib.Core.List.{List}
-use mathlib.Core.Option.{Option, none, some}
+use Rattle.std.proofs.Common.{Option, None, Some}
 use Prim.Native.Nat.{ℕ, ◌+◌, ◌<◌}
 use lib.ListN.{length, get_or}
 use lib.Dec.{ltb, leb, eqb}
@@ -82,8 +82,8 @@ module _ (r : Joiner) (s : List ℕ) (ok : refusal_of r (length s) ≡ 0) where
 
 -- the tallies after an answer, a reset having none
 abbrev pub tallied_by : Option Heard → Tallies → Tallies
-tallied_by none t = t
-tallied_by (some h) t = tallied h t
+tallied_by None t = t
+tallied_by (Some h) t = tallied h t
 
 field_of : (f : List ℕ) (k : ℕ) → idle (push f k) ≡ false → field_ok k ≡ true
 field_of f k e = not-false (field_ok k) (or_left (not (field_ok k)) (not (eqb (length f) (k + 3)) || idle (join f (fragment_length f k))) e)

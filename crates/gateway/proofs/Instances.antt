@@ -6,7 +6,7 @@
 use mathlib.Core.Path.{◌≡◌, refl, subst}
 use mathlib.Core.Bool.{Bool, true, false}
 use mathlib.Core.List.{List, [], ◌∷◌, ◌++◌}
-use mathlib.Core.Option.{some}
+use Rattle.std.proofs.Common.{Some}
 use Prim.Native.Nat.{ℕ, zero, suc, ◌+◌, ◌*◌, ◌^◌, ◌≤◌, ◌<◌}
 use native.Mathlib.Omega.{arith}
 use lib.ListN.{length, replicate, length-append, length-replicate, get_or-replicate}
@@ -56,7 +56,7 @@ module _ (m : ℕ) (x : Sending) (a : Accepted m x) where
   frames_from (suc n) k e =
       let below : k < count_in x = omega arith in
       let frame = frame_of x.field (fragment_of x.message x.field m k) (x.control k) (x.marker k) in
-      subst (λ (j : ℕ). Frames m x k (line (push frame x.field) (some (answer_before j x.message)) ∷ lines_from m x (suc k) n))
+      subst (λ (j : ℕ). Frames m x k (line (push frame x.field) (Some (answer_before j x.message)) ∷ lines_from m x (suc k) n))
       (lines_from_lem m x n (suc k))
       (fragment_then (fragment_of x.message x.field m k) frame
       (send_answer x.message x.field m k able below)
@@ -109,7 +109,7 @@ module _ {mended : Bool} {m field : ℕ} (a : Ample m field) {command : ℕ} {d 
   report_able : Sendable report.message field m
   report_able =
       let b = codec_back mended c l in
-      record { field_ok_holds = a.field_ok_holds; mask_ok_holds = a.mask_ok_holds; some = b.not_empty; short = b.fits; first_low = b.first_low; room = a.room (length b.message) b.fits }
+      record { field_ok_holds = a.field_ok_holds; mask_ok_holds = a.mask_ok_holds; Some = b.not_empty; short = b.fits; first_low = b.first_low; room = a.room (length b.message) b.fits }
 
   pub report_message : Message mended m report (lines_of m report)
   report_message =
@@ -149,7 +149,7 @@ raw_high = refl
 module _ (m : ℕ) (ok : mask_ok m ≡ true) where
   three_able : Sendable (0x20 ∷ raw) 3 m
   three_able =
-      record { field_ok_holds = refl; mask_ok_holds = ok; some = omega arith; short = omega arith; first_low = omega arith; room = omega (arith, three_count, most_three m (mask_top m ok)) }
+      record { field_ok_holds = refl; mask_ok_holds = ok; Some = omega arith; short = omega arith; first_low = omega arith; room = omega (arith, three_count, most_three m (mask_top m ok)) }
 
   pub three_message : {mended : Bool} → Message mended m three (lines_of m three)
   three_message =
@@ -157,7 +157,7 @@ module _ (m : ℕ) (ok : mask_ok m ≡ true) where
       (accepted_by m three three_able (λ k h. (λ e. omega (arith, three_count), omega arith, omega (arith, three_count))))
       (high_coded raw_bytes raw_high (omega arith))
 
-  pub three_answers : answers (lines_of m three) ≡ some more ∷ some more ∷ some (done 5 (0x20 ∷ raw)) ∷ []
+  pub three_answers : answers (lines_of m three) ≡ Some more ∷ Some more ∷ Some (done 5 (0x20 ∷ raw)) ∷ []
   unfolding lines_of lines_from count_of ceiling pick
   three_answers = refl
 
@@ -190,7 +190,7 @@ many_able =
     record {
       field_ok_holds = ample_80.field_ok_holds;
       mask_ok_holds = ample_80.mask_ok_holds;
-      some = omega arith;
+      Some = omega arith;
       short = omega (arith, highs_size);
       first_low = omega arith;
       room = ample_80.room (length (0x20 ∷ highs)) (omega (arith, highs_size));

@@ -3,7 +3,7 @@
 use mathlib.Core.Path.{◌≡◌, refl, ap, ap₂, ◌∙◌}
 use mathlib.Core.Bool.{false}
 use mathlib.Core.List.{List, [], ◌∷◌, ◌++◌, append-nil}
-use mathlib.Core.Option.{Option, none, some}
+use Rattle.std.proofs.Common.{Option, None, Some}
 use Prim.Native.Nat.{ℕ, ◌+◌, ◌^◌, ◌≤◌, ◌<◌}
 use native.Mathlib.Omega.{arith}
 use lib.ListN.{length}
@@ -78,8 +78,8 @@ counted_under (drops c) more = omega arith
 counted_under (drops c) (done n b) = omega arith
 
 heard_under : (i : Tally) (a : Option Heard) → (heard_one i a ≤ heard_one offered a) × (heard_one offered a ≤ 1)
-heard_under i none = (omega arith, omega arith)
-heard_under i (some h) = (counted_under i h, omega (arith, num_lt (is_counted_by offered h)))
+heard_under i None = (omega arith, omega arith)
+heard_under i (Some h) = (counted_under i h, omega (arith, num_lt (is_counted_by offered h)))
 
 -- a state that takes n more pushes and joins
 pub record Below (t : State) (n : ℕ) : Type 0 where

@@ -3,7 +3,7 @@
 use mathlib.Core.Path.{◌≡◌}
 use mathlib.Core.Bool.{true}
 use mathlib.Core.List.{List, [], ◌∷◌, ◌++◌}
-use mathlib.Core.Option.{some}
+use Rattle.std.proofs.Common.{Some}
 use Prim.Native.Nat.{ℕ, zero, suc, ◌<◌}
 use lib.ListN.{length}
 use Rattle.refusals.specs.Outcome.{accepted}
@@ -31,7 +31,7 @@ unfoldable pub lines_from : ℕ → Sending → ℕ → ℕ → List Line
 lines_from mask x k zero = []
 lines_from mask x k (suc n) =
     line (push (frame_of x.field (fragment_of x.message x.field mask k) (x.control k) (x.marker k)) x.field)
-    (some (answer_before n x.message))
+    (Some (answer_before n x.message))
     ∷ lines_from mask x (suc k) n
 
 unfoldable pub lines_of : ℕ → Sending → List Line

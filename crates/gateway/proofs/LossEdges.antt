@@ -3,7 +3,7 @@
 use mathlib.Core.Path.{◌≡◌, refl}
 use mathlib.Core.Bool.{Bool, true, false, ◌&&◌}
 use mathlib.Core.List.{List, [], ◌∷◌}
-use mathlib.Core.Option.{Option, none, some}
+use Rattle.std.proofs.Common.{Option, None, Some}
 use Prim.Native.Nat.{ℕ, ◌-◌}
 use lib.ListN.{replicate}
 use lib.Dec.{eqb}
@@ -28,10 +28,10 @@ pub record Row : Type 0 where
   pub tallies : List ℕ
 
 abbrev row : Call → Heard → List ℕ → Row
-row c h t = record { call = c; answer = some h; tallies = t }
+row c h t = record { call = c; answer = Some h; tallies = t }
 
 abbrev reset_row : List ℕ → Row
-reset_row t = record { call = reset; answer = none; tallies = t }
+reset_row t = record { call = reset; answer = None; tallies = t }
 
 -- a receiver, and calls on it, each after the one before it
 pub record Case : Type 0 where
@@ -146,10 +146,10 @@ same_heard (done n b) more = false
 same_heard (done n b) (done k l) = eqb n k && same b l
 
 same_answer : Option Heard → Option Heard → Bool
-same_answer none none = true
-same_answer none (some g) = false
-same_answer (some h) none = false
-same_answer (some h) (some g) = same_heard h g
+same_answer None None = true
+same_answer None (Some g) = false
+same_answer (Some h) None = false
+same_answer (Some h) (Some g) = same_heard h g
 
 eight : Tallies → List ℕ
 eight t = t.offered ∷ t.more ∷ t.done ∷ t.wrong_length ∷ t.no_fragment ∷ t.overflow ∷ t.limit ∷ t.check ∷ []

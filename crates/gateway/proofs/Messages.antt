@@ -4,7 +4,7 @@
 use mathlib.Core.Path.{◌≡◌, refl, sym, ap, ap₂, ◌∙◌, subst}
 use mathlib.Core.Bool.{true}
 use mathlib.Core.List.{List, [], ◌∷◌, ◌++◌}
-use mathlib.Core.Option.{Option, some}
+use Rattle.std.proofs.Common.{Option, Some}
 use Prim.Native.Nat.{ℕ, zero, suc, ◌+◌, ◌-◌, ◌*◌, ◌≤◌, ◌<◌}
 use native.Mathlib.Numerals.{add-one}
 use native.Mathlib.Omega.{arith}
@@ -48,9 +48,9 @@ module _ (m : ℕ) (top : Top m) (field : ℕ) (fok : field_ok field ≡ true) (
   abbrev Runs : Held → List Line → List Line → Type 0
   Runs v ls after = run_v m v (calls (ls ++ after)) ≡ answers ls ++ run_v m empty (calls after)
 
-  head_line : (v : Held) (c : Call) (a : Heard) (ls after : List Line) (w : Held) → step_v m v c ≡ out a w → Runs w ls after → Runs v (line c (some a) ∷ ls) after
+  head_line : (v : Held) (c : Call) (a : Heard) (ls after : List Line) (w : Held) → step_v m v c ≡ out a w → Runs w ls after → Runs v (line c (Some a) ∷ ls) after
   unfolding run_v
-  head_line v c a ls after w e r = rw e (ap {B = List (Option Heard)} (λ l. some a ∷ l) r)
+  head_line v c a ls after w e r = rw e (ap {B = List (Option Heard)} (λ l. Some a ∷ l) r)
 
   low : 3 ≤ field
   low = field_low field fok
@@ -167,7 +167,7 @@ module _ (m : ℕ) (top : Top m) (field : ℕ) (fok : field_ok field ≡ true) (
     unfolding lines_from
     rest_run zero j e after =
         let z : q ≡ j = omega arith in
-        subst (λ (y : ℕ). Runs (part (buf y) (suc y) chk) (line (push (frame_of field (fragment_of (h ∷ rest) field m (suc y)) (control (suc y)) (marker (suc y))) field) (some (pick (eqb 0 0) whole more)) ∷ []) after) z
+        subst (λ (y : ℕ). Runs (part (buf y) (suc y) chk) (line (push (frame_of field (fragment_of (h ∷ rest) field m (suc y)) (control (suc y)) (marker (suc y))) field) (Some (pick (eqb 0 0) whole more)) ∷ []) after) z
         (unfold pick in head_line (part (buf q) (suc q) chk) _ whole [] after empty
         (push_is (part (buf q) (suc q) chk) (suc q) (h ∷ piece q) (out whole empty) frag_last last_step) refl)
     rest_run (suc n) j e after =

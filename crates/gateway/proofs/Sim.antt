@@ -3,7 +3,7 @@
 use mathlib.Core.Path.{◌≡◌, refl, sym, ap, ap₂, ◌∙◌}
 use mathlib.Core.Bool.{Bool, true, false}
 use mathlib.Core.List.{List, [], ◌∷◌, ◌++◌}
-use mathlib.Core.Option.{Option, some}
+use Rattle.std.proofs.Common.{Option, Some}
 use Prim.Native.Nat.{ℕ, ◌+◌, ◌-◌, ◌≤◌, ◌<◌}
 use native.Mathlib.Omega.{arith}
 use lib.Bits.{bit_and}
@@ -61,8 +61,8 @@ module _ (r : Joiner) (s : List ℕ) (b : ℕ) (size : length s ≡ 5000) (pos :
   done_as = ap₂ done (sym length_msg) set_take
 
   ended_as : (h : Heard) (e : end_v r.crc_mask (set (take r.held s) 0 b) r.nfrag r.count ≡ h) (g : Heard) → g ≡ h
-      → Sim r.crc_mask (record { answer = some g; next = bare (ended r) (set s 0 b) }) (out (end_v r.crc_mask (set (take r.held s) 0 b) r.nfrag r.count) empty)
-  ended_as h e g q = record { answer = ap some (q ∙ sym e); next = end_view; good = ended_good }
+      → Sim r.crc_mask (record { answer = Some g; next = bare (ended r) (set s 0 b) }) (out (end_v r.crc_mask (set (take r.held s) 0 b) r.nfrag r.count) empty)
+  ended_as h e g q = record { answer = ap Some (q ∙ sym e); next = end_view; good = ended_good }
 
   pub finish_sim : Sim r.crc_mask (bare_seen (finish_of r s b)) (out (end_v r.crc_mask (set (take r.held s) 0 b) r.nfrag r.count) empty)
   finish_sim =
@@ -106,7 +106,7 @@ module _ (r : Joiner) (s : List ℕ) (b : ℕ) (t : List ℕ) (size : length s �
   unfolding view pick
   emptied_view = refl
 
-  emptied_sim : Sim r.crc_mask (record { answer = some (dropped Limit); next = bare (emptied r (leb 0x80 b)) s }) (out (dropped Limit) (pick (leb 0x80 b) over empty))
+  emptied_sim : Sim r.crc_mask (record { answer = Some (dropped Limit); next = bare (emptied r (leb 0x80 b)) s }) (out (dropped Limit) (pick (leb 0x80 b) over empty))
   emptied_sim = record { answer = refl; next = emptied_view; good = emptied_good (leb 0x80 b) }
 
   grown_view : base_of r.held + length t ≤ 5000 → view (bare (grown r (length t)) full) ≡ part (buf ++ t) (r.nfrag + 1) r.count
@@ -182,7 +182,7 @@ module _ (t : Bare) (g : Good t.receiver.crc_mask t) (ok : mask_ok t.receiver.cr
   free = none_refused t.receiver (length t.store) (record { store = g.size; fit = g.fit; few = g.few; mask = ok })
 
   -- a call that changes nothing
-  stays : (a : Heard) → Sim t.receiver.crc_mask (record { answer = some a; next = t }) (out a (view t))
+  stays : (a : Heard) → Sim t.receiver.crc_mask (record { answer = Some a; next = t }) (out a (view t))
   stays a = record { answer = refl; next = refl; good = g }
 
   pub join_sim : (f : List ℕ) (n : ℕ) → Sim t.receiver.crc_mask (bare_seen (join_of t.receiver t.store f n)) (join_v t.receiver.crc_mask (view t) f n)

@@ -3,7 +3,7 @@
 use mathlib.Core.Path.{◌≡◌, refl}
 use mathlib.Core.Bool.{true, false, ◌||◌, not}
 use mathlib.Core.List.{List, [], ◌∷◌, ◌++◌}
-use mathlib.Core.Option.{Option, none, some}
+use Rattle.std.proofs.Common.{Option, None, Some}
 use Prim.Native.Nat.{ℕ, ◌+◌, ◌-◌, ◌≤◌, ◌<◌}
 use lib.Bits.{bit_and}
 use lib.ListN.{length, get_or, take, drop, set}
@@ -29,7 +29,7 @@ pub record Out : Type 0 where
   pub next : Held
 
 abbrev pub out : Heard → Held → Out
-out a h = record { answer = some a; next = h }
+out a h = record { answer = Some a; next = h }
 
 -- the view of a receiver and its store
 unfoldable pub view : Bare → Held
@@ -71,7 +71,7 @@ module _ (m : ℕ) where
       (pick (not (eqb (length f) (field + 3))) (out (dropped WrongLength) h)
       (join_v h f (fragment_length f field)))
   step_v h (join f n) = join_v h f n
-  step_v h reset = record { answer = none; next = empty }
+  step_v h reset = record { answer = None; next = empty }
 
   -- what is held after a list of calls, and their answers
   unfoldable pub left_v : Held → List Call → Held

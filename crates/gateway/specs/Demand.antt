@@ -3,7 +3,7 @@
 -- answers and not tallies, for lists of fewer than 2^64 pushes and joins in all, those before the ending included" (02, E12).
 -- Assumes nothing.
 use Rattle.std.specs.Prelude.{◌≡◌, Bool, true, List, [], ◌∷◌, ◌++◌, ℕ, suc, ◌≤◌, ◌<◌, length, drop, eqb}
-use Rattle.std.proofs.Math.Option.{some}
+use Rattle.std.specs.Prelude.{Some}
 use Rattle.laws.specs.Pick.{pick}
 use Rattle.refusals.specs.Outcome.{accepted, refused, answer, into, left}
 use Rattle.sender.specs.Send.{count_for, send_of}
@@ -33,7 +33,7 @@ pub data Frames (mask : ℕ) (x : Sending) : ℕ → List Line → Type 0 where
       → send_of x.message x.field mask k ≡ answer fragment
       → build_of x.field fragment (x.control k) (x.marker k) ≡ answer frame
       → Frames mask x (suc k) rest
-      → Frames mask x k (line (push frame x.field) (some (answer_before (length rest) x.message)) ∷ rest)
+      → Frames mask x k (line (push frame x.field) (Some (answer_before (length rest) x.message)) ∷ rest)
 
 -- One message of the list: it "is coded from generic bytes or a plain AX.25 frame as in 01, accepted by the sender under this receiver's mask
 -- and a field size of its own, framed and pushed with that size in order".

@@ -1,7 +1,7 @@
 -- What the tallies count over a list of calls: document 02, E12.
 -- Assumes nothing.
 use Rattle.std.specs.Prelude.{◌≡◌, Bool, List, [], ◌∷◌, ℕ, ◌+◌}
-use Rattle.std.proofs.Math.Option.{Option, none, some}
+use Rattle.std.specs.Prelude.{Option, None, Some}
 use Rattle.laws.specs.Bits.{num}
 use Rattle.receiver.specs.Join.{Heard}
 use Rattle.receiver.specs.New.{fresh_of}
@@ -39,8 +39,8 @@ is_counted_by (drops c) = is_dropped_by c
 -- How many answers pass a test. A reset has none.
 unfoldable pub how_many : (Heard → Bool) → List (Option Heard) → ℕ
 how_many p [] = 0
-how_many p (none ∷ l) = how_many p l
-how_many p (some h ∷ l) = num (p h) + how_many p l
+how_many p (None ∷ l) = how_many p l
+how_many p (Some h ∷ l) = num (p h) + how_many p l
 
 -- The tallies that a list of calls leaves, from a new receiver.
 abbrev pub tallies_after : ℕ → List ℕ → List Call → Tallies

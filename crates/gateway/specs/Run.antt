@@ -1,7 +1,7 @@
 -- "The list of demand 3": pushes, joins and resets on one receiver and one store.
 -- Assumes nothing.
 use Rattle.std.specs.Prelude.{Bool, true, false, ◌&&◌, ◌||◌, not, List, [], ◌∷◌, ◌++◌, ℕ, suc, ◌+◌, ◌^◌, ◌<◌, length, get_or, ltb, eqb}
-use Rattle.std.proofs.Math.Option.{Option, none, some}
+use Rattle.std.specs.Prelude.{Option, None, Some}
 use Rattle.laws.specs.Pick.{pick}
 use Rattle.refusals.specs.Limits.{field_ok}
 use Rattle.receiver.specs.Join.{Heard, After}
@@ -32,13 +32,13 @@ pub record Step : Type 0 where
 
 -- The step of a push or a join.
 abbrev pub seen : After Reassembler → Step
-seen a = record { answer = some a.heard; next = state a.receiver a.store }
+seen a = record { answer = Some a.heard; next = state a.receiver a.store }
 
 -- One call.
 abbrev pub step_of : State → Call → Step
 step_of t (push f field) = seen (push_tallied t.receiver t.store f field)
 step_of t (join f n) = seen (join_tallied t.receiver t.store f n)
-step_of t reset = record { answer = none; next = state (reset_tallied t.receiver) t.store }
+step_of t reset = record { answer = None; next = state (reset_tallied t.receiver) t.store }
 
 -- The answers to a list of calls. "Each `push`, `join` and reset gets the state and the store as the call before left them, and nobody else
 -- writes them meanwhile."

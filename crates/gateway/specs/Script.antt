@@ -1,7 +1,7 @@
 -- Messages that are sent, the calls of a list with the answers that they are to have, and idle calls between them.
 -- Assumes nothing.
 use Rattle.std.specs.Prelude.{◌≡◌, Bool, true, List, [], ◌∷◌, ℕ, ◌+◌, length, eqb}
-use Rattle.std.proofs.Math.Option.{Option, none, some}
+use Rattle.std.specs.Prelude.{Option, None, Some}
 use Rattle.laws.specs.Pick.{pick}
 use Rattle.refusals.specs.Limits.{field_ok}
 use Rattle.frame.specs.declared.Control.{Control}
@@ -37,9 +37,9 @@ answers (l ∷ ls) = l.answer ∷ answers ls
 
 -- An idle call "answers the table's refusal, else Dropped": for a wrong length, or for no fragment. (A reset is not idle.)
 abbrev pub idle_answer : Call → Option Heard
-idle_answer (push f field) = some (pick (field_ok field) (dropped (pick (eqb (length f) (field + 3)) NoFragment WrongLength)) (refused 8))
-idle_answer (join f n) = some (dropped NoFragment)
-idle_answer reset = none
+idle_answer (push f field) = Some (pick (field_ok field) (dropped (pick (eqb (length f) (field + 3)) NoFragment WrongLength)) (refused 8))
+idle_answer (join f n) = Some (dropped NoFragment)
+idle_answer reset = None
 
 -- "Frames of a wrong length and other idle calls may stand anywhere between": the second list is the first with idle calls put in before,
 -- between and after, and "those answer Dropped where they are not refused".

@@ -1,7 +1,7 @@
 -- Messages that are coded from generic bytes and plain frames, and what is handed out.
 -- Assumes nothing.
 use Rattle.std.specs.Prelude.{◌≡◌, Bool, List, [], ◌∷◌, ℕ}
-use Rattle.std.proofs.Math.Option.{Option, none, some}
+use Rattle.std.specs.Prelude.{Option, None, Some}
 use Rattle.refusals.specs.Outcome.{answer}
 use Rattle.receiver.specs.Join.{Heard, refused, dropped, more, done}
 use Rattle.kiss.specs.Codec.{code_of}
@@ -21,11 +21,11 @@ pub record CodedFrom (mended : Bool) (message : List ℕ) : Type 0 where
 -- "What is handed out": the bytes of each Done among the answers, in order.
 abbrev pub handed : List (Option Heard) → List (List ℕ)
 handed [] = []
-handed (some (done n b) ∷ rest) = b ∷ handed rest
-handed (some (refused k) ∷ rest) = handed rest
-handed (some (dropped c) ∷ rest) = handed rest
-handed (some more ∷ rest) = handed rest
-handed (none ∷ rest) = handed rest
+handed (Some (done n b) ∷ rest) = b ∷ handed rest
+handed (Some (refused k) ∷ rest) = handed rest
+handed (Some (dropped c) ∷ rest) = handed rest
+handed (Some more ∷ rest) = handed rest
+handed (None ∷ rest) = handed rest
 
 -- The messages that are sent, in order.
 abbrev pub messages_of : List Sending → List (List ℕ)

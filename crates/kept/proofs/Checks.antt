@@ -3,7 +3,7 @@
 use mathlib.Core.Path.{◌≡◌, refl, sym, ap, ◌∙◌}
 use mathlib.Core.Bool.{true, false}
 use mathlib.Core.List.{List, [], ◌∷◌}
-use mathlib.Core.Option.{Option, none, some}
+use Rattle.std.proofs.Common.{Option, None, Some}
 use Prim.Native.Nat.{ℕ, ◌+◌, ◌≤◌, ◌<◌, max}
 use native.Mathlib.Omega.{arith}
 use native.Mathlib.Numerals.{add-one}
@@ -73,7 +73,7 @@ module _ (code len n : ℕ) (place : Option ℕ) where
   pub record Placed (i : ℕ) : Type 0 where
     pub fine : code ≡ 0
     pub name : name_ok len ≡ true
-    pub found : place ≡ some i
+    pub found : place ≡ Some i
 
   pub placed_is : (i : ℕ) → placed code len n place ≡ answer i → Placed i
   placed_is i e =
@@ -81,20 +81,20 @@ module _ (code len n : ℕ) (place : Option ℕ) where
       (λ z. by_test (name_ok len)
       (λ t. by_option place
       (λ o. absurd (answer_not (sym e ∙ placed_at z t ∙ ap (place_or n) o)))
-      (λ j o. record { fine = z; name = t; found = o ∙ ap some (sym (same_answer_lem (sym e ∙ placed_at z t ∙ ap (place_or n) o))) }))
+      (λ j o. record { fine = z; name = t; found = o ∙ ap Some (sym (same_answer_lem (sym e ∙ placed_at z t ∙ ap (place_or n) o))) }))
       (λ t. absurd (answer_not (sym e ∙ placed_name z t))))
       (λ z. absurd (answer_not (sym e ∙ placed_bad z)))
 
 -- a place is one of the slots
-pub under_small : (name : List ℕ) (ss : List Slot) (i : ℕ) → place_under name ss ≡ some i → i < length ss
+pub under_small : (name : List ℕ) (ss : List Slot) (i : ℕ) → place_under name ss ≡ Some i → i < length ss
 under_small name ss i e = (first_hit (is_under name) ss free_slot i e).small
 
-of_two : (m n : List ℕ) (ss : List Slot) (i : ℕ) → or_else (place_under m ss) (place_under n ss) ≡ some i → i < length ss
+of_two : (m n : List ℕ) (ss : List Slot) (i : ℕ) → or_else (place_under m ss) (place_under n ss) ≡ Some i → i < length ss
 of_two m n ss i e = by_first (place_under m ss) refl e
   where
-    by_first : (o : Option ℕ) → place_under m ss ≡ o → or_else o (place_under n ss) ≡ some i → i < length ss
-    by_first none q f = under_small n ss i f
-    by_first (some j) q f = under_small m ss i (q ∙ f)
+    by_first : (o : Option ℕ) → place_under m ss ≡ o → or_else o (place_under n ss) ≡ Some i → i < length ss
+    by_first None q f = under_small n ss i f
+    by_first (Some j) q f = under_small m ss i (q ∙ f)
 
-pub for_small : (name : List ℕ) (ss : List Slot) (i : ℕ) → place_for name ss ≡ some i → i < length ss
+pub for_small : (name : List ℕ) (ss : List Slot) (i : ℕ) → place_for name ss ≡ Some i → i < length ss
 for_small name ss i e = of_two _ _ ss i e

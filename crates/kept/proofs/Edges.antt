@@ -3,7 +3,7 @@
 use mathlib.Core.Path.{◌≡◌, refl}
 use mathlib.Core.Bool.{false}
 use mathlib.Core.List.{List, [], ◌∷◌, ◌++◌}
-use mathlib.Core.Option.{Option, none, some}
+use Rattle.std.proofs.Common.{Option, None, Some}
 use Prim.Native.Nat.{ℕ}
 use lib.ListN.{replicate}
 use Rattle.laws.specs.Bits.{num}
@@ -53,18 +53,18 @@ row k name under goes = record { kept = k; name = name; under = under; goes = go
 
 pub places : List Row
 places =
-    row none_kept (ascii "B") none (some 0)
-    ∷ row two (ascii "K1A") (some 0) (some 0)
-    ∷ row two (ascii "B") (some 2) (some 2)
-    ∷ row two (ascii "K1") none (some 1)
-    ∷ row two (ascii "K1AB") none (some 1)
-    ∷ row two (ascii "K1A" ++ (0 ∷ [])) none (some 1)
-    ∷ row odd (ascii "B") (some 1) (some 1)
-    ∷ row odd (ascii "Bx") none (some 0)
-    ∷ row odd (ascii "12345678") (some 3) (some 3)
-    ∷ row odd (ascii "1234567") none (some 0)
-    ∷ row eight (ascii "C") (some 1) (some 1)
-    ∷ row eight (ascii "D") none none
+    row none_kept (ascii "B") None (Some 0)
+    ∷ row two (ascii "K1A") (Some 0) (Some 0)
+    ∷ row two (ascii "B") (Some 2) (Some 2)
+    ∷ row two (ascii "K1") None (Some 1)
+    ∷ row two (ascii "K1AB") None (Some 1)
+    ∷ row two (ascii "K1A" ++ (0 ∷ [])) None (Some 1)
+    ∷ row odd (ascii "B") (Some 1) (Some 1)
+    ∷ row odd (ascii "Bx") None (Some 0)
+    ∷ row odd (ascii "12345678") (Some 3) (Some 3)
+    ∷ row odd (ascii "1234567") None (Some 0)
+    ∷ row eight (ascii "C") (Some 1) (Some 1)
+    ∷ row eight (ascii "D") None None
     ∷ []
 
 -- what the definitions say of the same names

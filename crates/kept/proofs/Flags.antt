@@ -3,7 +3,7 @@
 use mathlib.Core.Path.{◌≡◌, refl, sym, ap, ap₂, ◌∙◌}
 use mathlib.Core.Bool.{Bool, true, false, true≢false}
 use mathlib.Core.List.{List, [], ◌∷◌, map}
-use mathlib.Core.Option.{some}
+use Rattle.std.proofs.Common.{Some}
 use Prim.Native.Nat.{ℕ, zero, suc, ◌+◌, ◌≤◌, ◌<◌}
 use native.Mathlib.Nat.{not-suc-le-zero, le_of_suc-le-suc}
 use native.Mathlib.Numerals.{add-one}
@@ -97,10 +97,10 @@ unfolding first_from
 slots_same i [] e = refl
 slots_same i (s ∷ ss) e =
     by_test (has_other_flag s)
-    (λ t. absurd (true≢false (sym (ap is_place (pick_true (some i) (first_from has_other_flag (suc i) ss) t)) ∙ e)))
+    (λ t. absurd (true≢false (sym (ap is_place (pick_true (Some i) (first_from has_other_flag (suc i) ss) t)) ∙ e)))
     (λ t. ap₂ (λ (x : Slot) (l : List Slot). x ∷ l)
     (slot_same s (let h = ltb-false 1 s.receiver.overflow t in omega arith))
-    (slots_same (suc i) ss (sym (ap is_place (pick_false (some i) (first_from has_other_flag (suc i) ss) t)) ∙ e)))
+    (slots_same (suc i) ss (sym (ap is_place (pick_false (Some i) (first_from has_other_flag (suc i) ss) t)) ∙ e)))
 
 -- ---- a loop that looks for such a flag
 

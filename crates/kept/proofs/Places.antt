@@ -3,7 +3,8 @@
 use mathlib.Core.Path.{◌≡◌, refl, sym, ap, ◌∙◌}
 use mathlib.Core.Bool.{Bool, true, false}
 use mathlib.Core.List.{List, [], ◌∷◌}
-use mathlib.Core.Option.{none, some, none-ne-some, some-injective}
+use Rattle.std.proofs.Common.{None, Some}
+use Rattle.std.proofs.lemmas.Option.{none-some, same_Some}
 use Prim.Native.Nat.{ℕ, zero, suc, ◌+◌, ◌≤◌, ◌<◌}
 use native.Mathlib.Nat.{not-suc-le-zero, le_of_suc-le-suc}
 use native.Mathlib.Omega.{arith}
@@ -25,33 +26,33 @@ module _ {A : Type 0} (p : A → Bool) where
     pub small : k < length l
     pub hit : p (get_or l k d) ≡ true
 
-  hit_from : {P : Type 0} (l : List A) (d : A) (i k : ℕ) → first_from p i l ≡ some k → ((j : ℕ) → k ≡ i + j → Hit l d j → P) → P
+  hit_from : {P : Type 0} (l : List A) (d : A) (i k : ℕ) → first_from p i l ≡ Some k → ((j : ℕ) → k ≡ i + j → Hit l d j → P) → P
   unfolding first_from
-  hit_from [] d i k e f = absurd (none-ne-some k e)
+  hit_from [] d i k e f = absurd (none-some k e)
   hit_from (x ∷ l) d i k e f =
       by_test (p x)
-      (λ t. let q : i ≡ k = some-injective i k (sym (pick_true (some i) (first_from p (suc i) l) t) ∙ e) in
+      (λ t. let q : i ≡ k = same_Some i k (sym (pick_true (Some i) (first_from p (suc i) l) t) ∙ e) in
       f 0 (omega arith) (record { small = omega arith; hit = t }))
-      (λ t. hit_from l d (suc i) k (sym (pick_false (some i) (first_from p (suc i) l) t) ∙ e)
+      (λ t. hit_from l d (suc i) k (sym (pick_false (Some i) (first_from p (suc i) l) t) ∙ e)
       (λ j q h. f (suc j) (omega arith) (record { small = omega (arith, h.small); hit = h.hit })))
 
-  pub first_hit : (l : List A) (d : A) (k : ℕ) → first_from p 0 l ≡ some k → Hit l d k
+  pub first_hit : (l : List A) (d : A) (k : ℕ) → first_from p 0 l ≡ Some k → Hit l d k
   first_hit l d k e = hit_from l d 0 k e (λ j q h. let z : k ≡ j = omega arith in rw z h)
 
 -- ---- a loop that looks at one after another
 
 module _ {A : Type 0} (p : A → Bool) (l : List A) (i : ℕ) (d : A) (h : i < length l) where
-  pub first_here : p (get_or l i d) ≡ true → first_from p i (drop i l) ≡ some i
+  pub first_here : p (get_or l i d) ≡ true → first_from p i (drop i l) ≡ Some i
   unfolding first_from
-  first_here e = ap (first_from p i) (drop-cons l i d h) ∙ pick_true (some i) (first_from p (suc i) (drop (suc i) l)) e
+  first_here e = ap (first_from p i) (drop-cons l i d h) ∙ pick_true (Some i) (first_from p (suc i) (drop (suc i) l)) e
 
   pub first_on : p (get_or l i d) ≡ false → first_from p i (drop i l) ≡ first_from p (i + 1) (drop (i + 1) l)
   unfolding first_from
   first_on e =
       ap (first_from p i) (drop-cons l i d h)
-      ∙ pick_false (some i) (first_from p (suc i) (drop (suc i) l)) e
+      ∙ pick_false (Some i) (first_from p (suc i) (drop (suc i) l)) e
       ∙ ap (λ (j : ℕ). first_from p j (drop j l)) (sym (add-one i))
 
-pub first_end : {A : Type 0} (p : A → Bool) (l : List A) (i : ℕ) → length l ≤ i → first_from p i (drop i l) ≡ none
+pub first_end : {A : Type 0} (p : A → Bool) (l : List A) (i : ℕ) → length l ≤ i → first_from p i (drop i l) ≡ None
 unfolding first_from
 first_end p l i h = ap (first_from p i) (drop_of_length-le l h)

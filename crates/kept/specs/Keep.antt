@@ -1,7 +1,7 @@
 -- Leaving a channel and coming back: document 02, E8. Receiver states kept under names, their stores in 40,000 lent bytes.
 -- Assumes nothing.
 use Rattle.std.specs.Prelude.{Bool, ◌&&◌, List, [], ◌∷◌, ℕ, suc, ◌*◌, max, length, take, drop, set, replicate, get_or, ltb, leb, eqb}
-use Rattle.std.proofs.Math.Option.{Option, none, some}
+use Rattle.std.specs.Prelude.{Option, None, Some}
 use Rattle.std.proofs.lemmas.List.Edits.{sets}
 use Rattle.laws.specs.Pick.{pick}
 use Rattle.laws.specs.Text.{same}
@@ -33,8 +33,8 @@ is_free s = is_under [] s
 
 -- the first place of what passes a test, where the first element stands at i
 unfoldable pub first_from : {A : Type 0} → (A → Bool) → ℕ → List A → Option ℕ
-first_from p i [] = none
-first_from p i (x ∷ xs) = pick (p x) (some i) (first_from p (suc i) xs)
+first_from p i [] = None
+first_from p i (x ∷ xs) = pick (p x) (Some i) (first_from p (suc i) xs)
 
 -- the first slot under a name
 abbrev pub place_under : List ℕ → List Slot → Option ℕ
@@ -42,8 +42,8 @@ place_under name ss = first_from (is_under name) 0 ss
 
 -- the first place, and the second where there is no first
 abbrev pub or_else : {A : Type 0} → Option A → Option A → Option A
-or_else (some i) other = some i
-or_else none other = other
+or_else (Some i) other = Some i
+or_else None other = other
 
 -- "Keeping under a known name replaces it in its place", a new one goes to the first slot that is free
 abbrev pub place_for : List ℕ → List Slot → Option ℕ
@@ -94,8 +94,8 @@ lent_refusal k lent = max (size_refusal lent 40000) (kept_refusal k.slots)
 
 -- a place, or a refusal where there is none
 abbrev pub place_or : ℕ → Option ℕ → Outcome ℕ
-place_or n none = refused n
-place_or n (some i) = answer i
+place_or n None = refused n
+place_or n (Some i) = answer i
 
 -- the place of a name of so many bytes, after the checks in order: 17 and 9, "then 20 for a name of another length", then n where it has none
 unfoldable pub placed : ℕ → ℕ → ℕ → Option ℕ → Outcome ℕ

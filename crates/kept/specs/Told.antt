@@ -1,7 +1,7 @@
 -- What the calls return, in the terms of the definitions.
 -- Assumes nothing.
 use Rattle.std.specs.Prelude.{Bool, true, false, List, map, ℕ, ltb}
-use Rattle.std.proofs.Math.Option.{Option, none, some}
+use Rattle.std.specs.Prelude.{Option, None, Some}
 use Rattle.refusals.specs.Outcome.{Outcome, refused, answer}
 use Rattle.receiver.specs.Stored.{receiver_of, stored_of}
 use Rattle.receiver.specs.declared.Reassembler.{Reassembler}
@@ -17,13 +17,13 @@ use Rattle.kept.specs.Keep.{KeepLeft, ReturnLeft, DropLeft}
 
 -- the place of a slot, or none
 abbrev pub place_in : Place → Option ℕ
-place_in (Place.At i) = some i
-place_in Place.Nowhere = none
+place_in (Place.At i) = Some i
+place_in Place.Nowhere = None
 
 -- whether there is a place
 abbrev pub is_place : Option ℕ → Bool
-is_place none = false
-is_place (some i) = true
+is_place None = false
+is_place (Some i) = true
 
 -- ok with a place, or a refusal's number
 abbrev pub to_named : Outcome ℕ → Named

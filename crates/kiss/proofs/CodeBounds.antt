@@ -4,7 +4,7 @@
 use mathlib.Core.Path.{◌≡◌, sym}
 use mathlib.Core.Bool.{Bool, false}
 use mathlib.Core.List.{List, [], ◌∷◌}
-use mathlib.Core.Option.{Option, none, some}
+use Rattle.std.proofs.Common.{Option, None, Some}
 use Prim.Native.Nat.{ℕ, ◌/◌, ◌%◌, ◌≤◌}
 use native.Mathlib.Omega.{arith}
 use lib.ListN.{length}
@@ -63,8 +63,8 @@ same_command : {r q : Decoded} → ◌≡◌ {A = Outcome Decoded} (answer r) (a
 same_command e = cc
 
 seven_command : (c : ℕ) (o : Option (List ℕ)) (r : Decoded) → or_seven c o ≡ answer r → c ≡ r.command
-seven_command c none r e = absurd (answer_not (sym e))
-seven_command c (some d) r e = same_command e
+seven_command c None r e = absurd (answer_not (sym e))
+seven_command c (Some d) r e = same_command e
 
 header_command : (mended : Bool) (header : ℕ) (rest : List ℕ) (r : Decoded) → decode_message mended header rest ≡ answer r → r.command ≤ 2
 unfolding decode_message pick

@@ -3,7 +3,7 @@
 use mathlib.Core.Path.{◌≡◌, refl, ap, ◌∙◌}
 use mathlib.Core.Bool.{Bool}
 use mathlib.Core.List.{List, [], ◌∷◌, ◌++◌}
-use mathlib.Core.Option.{Option, none, some}
+use Rattle.std.proofs.Common.{Option, None, Some}
 use Prim.Native.Nat.{ℕ, ◌+◌, ◌-◌, ◌/◌, ◌%◌, ◌≤◌, ◌<◌}
 use native.Mathlib.Omega.{arith}
 use lib.ListN.{length, get_or, take, drop}
@@ -88,29 +88,29 @@ not_both e f = let z : ◌≡◌ {A = ℕ} 0 1 = cc in omega arith
 -- the first run reads o, writes it to s, which leaves x, and answers r
 module _ (command : ℕ) (out s x : List ℕ) (r : Got) where
   none_read : (o : Option (List ℕ)) → Reads o s 0 x r → r ≡ Nothing → (refused 7, out) ≡ decode_into (or_seven command o) out
-  none_read none m e = tell_refused (λ d. d.bytes) (λ d. d.command) out {o = or_seven command none} 7 refl
-  none_read (some t) m e = absurd (not_both m.0 e)
+  none_read None m e = tell_refused (λ d. d.bytes) (λ d. d.command) out {o = or_seven command None} 7 refl
+  none_read (Some t) m e = absurd (not_both m.0 e)
 
   module _ (n : ℕ) (e : r ≡ Next n) where
-    sized : (t : List ℕ) → Reads (some t) s 0 x r → Wrote s 0 t x n
+    sized : (t : List ℕ) → Reads (Some t) s 0 x r → Wrote s 0 t x n
     sized t m = let k : n ≡ 0 + length t = cc in record { stored = m.1.stored; next_is = k }
 
     short_read : (o : Option (List ℕ)) → Reads o s 0 x r → length out < n → (refused 6, out) ≡ decode_into (or_seven command o) out
-    short_read none m h = absurd (not_both e m)
-    short_read (some t) m h =
-        first_short (λ d. d.bytes) (λ d. d.command) out (record { command = command; bytes = t }) {o = or_seven command (some t)} refl (sized t m) h
+    short_read None m h = absurd (not_both e m)
+    short_read (Some t) m h =
+        first_short (λ d. d.bytes) (λ d. d.command) out (record { command = command; bytes = t }) {o = or_seven command (Some t)} refl (sized t m) h
 
     whole_read : (o : Option (List ℕ)) → Reads o s 0 x r → n ≤ length out → (t : List ℕ) (v : Got) → Reads o out 0 t v
         → (answer (n, command), t) ≡ decode_into (or_seven command o) out
-    whole_read none m h t v w = absurd (not_both e m)
-    whole_read (some d) m h t v w =
-        first_fits (λ d. d.bytes) (λ d. d.command) out (record { command = command; bytes = d }) {o = or_seven command (some d)} refl (sized d m) h w.1
+    whole_read None m h t v w = absurd (not_both e m)
+    whole_read (Some d) m h t v w =
+        first_fits (λ d. d.bytes) (λ d. d.command) out (record { command = command; bytes = d }) {o = or_seven command (Some d)} refl (sized d m) h w.1
 
 -- where s has room for what is read, copying it is as good as a second run
 pub read_copied : (out s x : List ℕ) (r : Got) (n : ℕ) → r ≡ Next n → (o : Option (List ℕ)) → Reads o s 0 x r → n ≤ length s
     → (rest t : List ℕ) → t ≡ sets out 0 (take (n - 0) (x ++ rest)) → Reads o out 0 t r
-read_copied out s x r n e none m h rest t z = m
-read_copied out s x r n e (some d) m h rest t z = let k : 0 + length d ≡ n = cc in (m.0, copied_out m.1 n k h out rest z)
+read_copied out s x r n e None m h rest t z = m
+read_copied out s x r n e (Some d) m h rest t z = let k : 0 + length d ≡ n = cc in (m.0, copied_out m.1 n k h out rest z)
 
 -- the same of a frame, which is read from the part after the header
 module _ (mended : Bool) (command l h : ℕ) (m : List ℕ) (p : l ≡ call_len command) (out s x : List ℕ) (r : Got) where

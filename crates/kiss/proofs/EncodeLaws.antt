@@ -3,7 +3,8 @@
 use mathlib.Core.Path.{◌≡◌, refl, sym, ap, ◌∙◌}
 use mathlib.Core.Bool.{Bool}
 use mathlib.Core.List.{List, ◌++◌}
-use mathlib.Core.Option.{Option, none, some, none-ne-some, some-injective}
+use Rattle.std.proofs.Common.{Option, None, Some}
+use Rattle.std.proofs.lemmas.Option.{none-some, same_Some}
 use Prim.Native.Nat.{ℕ, ◌-◌, ◌≤◌, ◌<◌}
 use native.Mathlib.Nat.{zero-add}
 use native.Mathlib.Omega.{arith}
@@ -30,10 +31,10 @@ use Rattle.kiss.proofs.TellLaws.{tell_refused, first_short, first_fits, copied_o
 
 -- ---- the tests
 
-no_parts : (command : ℕ) (o : Option Parsed) → none ≡ seen_of command o → o ≡ none
+no_parts : (command : ℕ) (o : Option Parsed) → None ≡ seen_of command o → o ≡ None
 unfolding seen_of
-no_parts command none e = refl
-no_parts command (some p) e = absurd (none-ne-some (seen command p) e)
+no_parts command None e = refl
+no_parts command (Some p) e = absurd (none-some (seen command p) e)
 
 module _ (command : ℕ) (d : List ℕ) where
   pub no_command : 2 < command → code_of command d ≡ refused 1
@@ -54,7 +55,7 @@ module _ (command : ℕ) (d : List ℕ) where
       unfolding code_of
       of_frame e = pick_false _ _ (le-ltb 2 command h) ∙ pick_false _ _ (le-ltb 4999 (length d) k) ∙ pick_false _ _ (ne_eqb command 2 e)
 
-  pub short_frame : none ≡ seen_of command (parse_of (call_len command) d) → encode_of command d ≡ refused 3
+  pub short_frame : None ≡ seen_of command (parse_of (call_len command) d) → encode_of command d ≡ refused 3
   unfolding encode_of
   short_frame e = rw (no_parts command (parse_of (call_len command) d) e)
 
@@ -64,14 +65,14 @@ packed_type : (h t : ℕ) (o : Outcome (List Bool)) (c : Coded) → packed h t o
 packed_type h t (refused n) c e = absurd (answer_not (sym e))
 packed_type h t (answer b) c e = cc
 
-code_type : (command : ℕ) (d : List ℕ) (s : Seen) → some s ≡ seen_of command (parse_of (call_len command) d) → (c : Coded) → encode_of command d ≡ answer c → c.typ ≡ s.typ
+code_type : (command : ℕ) (d : List ℕ) (s : Seen) → Some s ≡ seen_of command (parse_of (call_len command) d) → (c : Coded) → encode_of command d ≡ answer c → c.typ ≡ s.typ
 unfolding encode_of code_parsed
 code_type command d s f c e =
     let k = known command (call_len command) d s f in
     three_from (parse_of (call_len command) d) (code_parsed command) c e
     (λ p ep g. four_from (head_bits (call_len command) p (type_of command p)) (λ head. packed (header_of command p) (type_of command p) (frame_bits (call_len command) p (type_of command p) head)) c g
     (λ head eh h.
-    let same : k.parts ≡ p = some-injective k.parts p (sym k.parsed ∙ ep) in
+    let same : k.parts ≡ p = same_Some k.parts p (sym k.parsed ∙ ep) in
     packed_type (header_of command p) (type_of command p) (frame_bits (call_len command) p (type_of command p) head) c h ∙ sym (ap (λ (x : Seen). x.typ) k.is ∙ ap (type_of command) same)))
 
 -- ---- one run or two
@@ -117,7 +118,7 @@ module _ (out s x : List ℕ) (r : Part) where
     run_copied (answer c) w h rest u z = let k : length c.bytes ≡ n = cc in (w.0, copied_out w.1 n k h out rest z)
 
 -- the same of a frame whose record is known
-module _ (command : ℕ) (d : List ℕ) (k : Seen) (f : some k ≡ seen_of command (parse_of (call_len command) d)) (out s x : List ℕ) (r : Part) (w : Codes (encode_of command d) s x r) where
+module _ (command : ℕ) (d : List ℕ) (k : Seen) (f : Some k ≡ seen_of command (parse_of (call_len command) d)) (out s x : List ℕ) (r : Part) (w : Codes (encode_of command d) s x r) where
   pub frame_run_fits : (n : ℕ) → r ≡ Next n → n ≤ length out → (u : List ℕ) (t : Part) → Codes (encode_of command d) out u t
       → (answer (n, k.typ), u) ≡ code_into (encode_of command d) out
   frame_run_fits n e h u t v = run_fits out s x r n e (encode_of command d) k.typ (code_type command d k f) w h u t v

@@ -3,7 +3,7 @@
 use mathlib.Core.Path.{◌≡◌, refl, sym, ◌∙◌}
 use mathlib.Core.Bool.{true, false}
 use mathlib.Core.List.{List, [], ◌∷◌}
-use mathlib.Core.Option.{Option, none, some, get_or}
+use Rattle.std.proofs.Common.{Option, None, Some, unwrap_or}
 use Prim.Native.Nat.{ℕ, ◌-◌, ◌/◌, ◌%◌}
 use native.Mathlib.Omega.{arith}
 use lib.ListN.{length, take, drop}
@@ -51,15 +51,15 @@ module _ (d : List ℕ) {s t u : List ℕ} {p next : ℕ} where
 
 -- what `text7` left is the text, or nothing
 module _ {s u : List ℕ} where
-  next_wrote : (o : Option (List ℕ)) {n : ℕ} → text7_next 0 o ≡ Next n → u ≡ text7_left s 0 o → Wrote s 0 (get_or o []) u n
+  next_wrote : (o : Option (List ℕ)) {n : ℕ} → text7_next 0 o ≡ Next n → u ≡ text7_left s 0 o → Wrote s 0 (unwrap_or o []) u n
   unfolding text7_next text7_left
-  next_wrote none e f = let z : ◌≡◌ {A = ℕ} 0 1 = cc in absurd (omega arith)
-  next_wrote (some t) e f = record { stored = f; next_is = cc }
+  next_wrote None e f = let z : ◌≡◌ {A = ℕ} 0 1 = cc in absurd (omega arith)
+  next_wrote (Some t) e f = record { stored = f; next_is = cc }
 
-  none_wrote : (o : Option (List ℕ)) → text7_next 0 o ≡ Nothing → u ≡ text7_left s 0 o → Wrote s 0 (get_or o []) u 0
+  none_wrote : (o : Option (List ℕ)) → text7_next 0 o ≡ Nothing → u ≡ text7_left s 0 o → Wrote s 0 (unwrap_or o []) u 0
   unfolding text7_next text7_left
-  none_wrote none e f = record { stored = f; next_is = refl }
-  none_wrote (some t) e f = let z : ◌≡◌ {A = ℕ} 0 1 = cc in absurd (omega arith)
+  none_wrote None e f = record { stored = f; next_is = refl }
+  none_wrote (Some t) e f = let z : ◌≡◌ {A = ℕ} 0 1 = cc in absurd (omega arith)
 
 -- the part of a message behind its first byte
 abbrev rest : List ℕ → List ℕ
@@ -70,7 +70,7 @@ module _ (h : ℕ) (m : List ℕ) where
   unfolding generic_back odd
   bytes_is e = from_place m 1 ∙ sym (pick_false _ _ (ne_eqb (h % 2) 1 (λ q. omega arith)))
 
-  text_is : (h % 2 ≡ 0 → ⊥) → get_or (text7_of (unpack (rest m)) 0) [] ≡ generic_back h (drop 1 m)
+  text_is : (h % 2 ≡ 0 → ⊥) → unwrap_or (text7_of (unpack (rest m)) 0) [] ≡ generic_back h (drop 1 m)
   unfolding generic_back odd
   text_is e = rw (from_place m 1) (sym (pick_true _ _ (eq-eqb (h % 2) 1 (omega arith))))
 

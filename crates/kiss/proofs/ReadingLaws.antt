@@ -3,7 +3,7 @@
 use mathlib.Core.Path.{◌≡◌, refl, subst}
 use mathlib.Core.Bool.{Bool, true, false}
 use mathlib.Core.List.{List, [], ◌∷◌, map}
-use mathlib.Core.Option.{Option, none, some}
+use Rattle.std.proofs.Common.{Option, None, Some}
 use Prim.Native.Nat.{ℕ, zero, suc, ◌/◌, ◌%◌, ◌≤◌}
 use native.Mathlib.Omega.{arith}
 use lib.ListN.{length, take, drop}
@@ -33,8 +33,8 @@ use Rattle.kiss.specs.Codec.{Decoded, or_seven, decode_message, decode_some, dec
 
 -- nothing in both, or something in both
 data Both {A : Type 0} (R : A → A → Type 0) : Option A → Option A → Type 0 where
-  neither : Both R none none
-  each : {x y : A} → R x y → Both R (some x) (some y)
+  neither : Both R None None
+  each : {x y : A} → R x y → Both R (Some x) (Some y)
 
 -- the same bits are left
 abbrev Rest : {X : Type 0} → X × List Bool → X × List Bool → Type 0
@@ -52,12 +52,12 @@ abbrev Any : {A : Type 0} → A → A → Type 0
 Any x y = Unit {0}
 
 same : {A : Type 0} {R : A → A → Type 0} (o : Option A) → ((x : A) → R x x) → Both R o o
-same none k = neither
-same (some x) k = each (k x)
+same None k = neither
+same (Some x) k = each (k x)
 
 from_same : {A B : Type 0} {S : B → B → Type 0} (o : Option A) (f g : A → Option B) → ((x : A) → Both S (f x) (g x)) → Both S (o >>= f) (o >>= g)
-from_same none f g k = neither
-from_same (some x) f g k = k x
+from_same None f g k = neither
+from_same (Some x) f g k = k x
 
 from_both : {A B : Type 0} {R : A → A → Type 0} {S : B → B → Type 0} {o p : Option A} (f g : A → Option B) → Both R o p
     → ((x y : A) → R x y → Both S (f x) (g y)) → Both S (o >>= f) (p >>= g)
@@ -87,7 +87,7 @@ both_any (each r) = each tt
 number_alike : (w : ℕ) (b : List Bool) → Both Rest (wide_number true w b) (wide_number false w b)
 unfolding wide_number take_bits take_text pick
 number_alike w b =
-    both_pick (leb w (length b)) {o = some (value_of (take w b), drop w b)} {p = some (val_of (map letter (take w b)), drop w b)} (each refl) neither
+    both_pick (leb w (length b)) {o = Some (value_of (take w b), drop w b)} {p = Some (val_of (map letter (take w b)), drop w b)} (each refl) neither
 
 pair_alike : (w : ℕ) (b : List Bool) → Both Rest (read_pair true w b) (read_pair false w b)
 unfolding read_pair
@@ -150,7 +150,7 @@ abbrev digis_on : Bool → ℕ → ℕ → List Bool → List ℕ → List ℕ �
 digis_on mended l n h d s ap r = do
   (v, r₄) ← read_digis mended l ap n r
   (t, r₅) ← take_bits (type_width ap) r₄
-  pick (known t) (some (record { dest = d; src = s; digis = v; heard = h; typ = t }, r₅)) none
+  pick (known t) (Some (record { dest = d; src = s; digis = v; heard = h; typ = t }, r₅)) None
 
 on_alike : (l n : ℕ) (h : List Bool) (d e s u : List ℕ) (ap : Bool) (r : List Bool) → Both Heads (digis_on true l n h d s ap r) (digis_on false l n h e u ap r)
 on_alike l n h d e s u ap r =

@@ -3,7 +3,8 @@
 use mathlib.Core.Path.{◌≡◌, sym, ap, ◌∙◌}
 use mathlib.Core.Bool.{Bool, false}
 use mathlib.Core.List.{List}
-use mathlib.Core.Option.{Option, none, some, none-ne-some, some-injective}
+use Rattle.std.proofs.Common.{Option, None, Some}
+use Rattle.std.proofs.lemmas.Option.{none-some, same_Some}
 use Prim.Native.Nat.{ℕ, ◌≤◌, ◌<◌}
 use lib.ListN.{length}
 use borrow.Author.Tests.{lt-ltb, le-ltb, eq-eqb, ne_eqb}
@@ -18,15 +19,15 @@ use Rattle.kiss.specs.Codec.{ui_control, Summary, summarised, summary_of}
 abbrev facts_of : Seen → Bool → Summary
 facts_of s u = record { typ = s.typ; digis = s.digis; ui = u }
 
-found_facts : (command : ℕ) (o : Option Parsed) (s : Seen) → seen_of command o ≡ some s → summarised command o ≡ answer (facts_of s (ui_control s.ctrl))
+found_facts : (command : ℕ) (o : Option Parsed) (s : Seen) → seen_of command o ≡ Some s → summarised command o ≡ answer (facts_of s (ui_control s.ctrl))
 unfolding seen_of
-found_facts command none s e = absurd (none-ne-some s e)
-found_facts command (some r) s e = ap (λ (x : Seen). answer (facts_of x (ui_control x.ctrl))) (some-injective (seen command r) s e)
+found_facts command None s e = absurd (none-some s e)
+found_facts command (Some r) s e = ap (λ (x : Seen). answer (facts_of x (ui_control x.ctrl))) (same_Some (seen command r) s e)
 
-short_facts : (command : ℕ) (o : Option Parsed) → seen_of command o ≡ none → summarised command o ≡ refused 3
+short_facts : (command : ℕ) (o : Option Parsed) → seen_of command o ≡ None → summarised command o ≡ refused 3
 unfolding seen_of
-short_facts command none e = cc
-short_facts command (some r) e = absurd (none-ne-some (seen command r) (sym e))
+short_facts command None e = cc
+short_facts command (Some r) e = absurd (none-some (seen command r) (sym e))
 
 module _ (command : ℕ) (d : List ℕ) where
   pub no_command : 2 < command → refused 1 ≡ summary_of command d
@@ -49,10 +50,10 @@ module _ (command : ℕ) (d : List ℕ) where
       of_frame =
           pick_false _ _ (le-ltb 2 command h) ∙ pick_false _ _ (le-ltb 4999 (length d) k) ∙ pick_false _ _ (ne_eqb command 2 e)
 
-      pub of_short : seen_of command (parse_of (call_len command) d) ≡ none → refused 3 ≡ summary_of command d
+      pub of_short : seen_of command (parse_of (call_len command) d) ≡ None → refused 3 ≡ summary_of command d
       of_short p = sym (of_frame ∙ short_facts command (parse_of (call_len command) d) p)
 
-      pub of_found : (s : Seen) (u : Bool) → seen_of command (parse_of (call_len command) d) ≡ some s → u ≡ ui_control s.ctrl
+      pub of_found : (s : Seen) (u : Bool) → seen_of command (parse_of (call_len command) d) ≡ Some s → u ≡ ui_control s.ctrl
           → answer (facts_of s u) ≡ summary_of command d
       of_found s u p q =
           ap (λ (v : Bool). answer (facts_of s v)) q ∙ sym (of_frame ∙ found_facts command (parse_of (call_len command) d) s p)

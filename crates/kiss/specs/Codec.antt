@@ -1,7 +1,7 @@
 -- The answers of `kiss::encode`, `kiss::summary` and `kiss::decode`, before a lent output is looked at.
 -- Assumes nothing.
 use Rattle.std.specs.Prelude.{Bool, false, ◌||◌, List, [], ◌∷◌, ℕ, ◌/◌, ◌%◌, length, ltb, eqb}
-use Rattle.std.proofs.Math.Option.{Option, none, some}
+use Rattle.std.specs.Prelude.{Option, None, Some}
 use Rattle.laws.specs.Bits.{unpack}
 use Rattle.laws.specs.Pick.{pick}
 use Rattle.refusals.specs.Outcome.{Outcome, refused, answer}
@@ -30,8 +30,8 @@ pub record Summary : Type 0 where
   pub ui : Bool
 
 abbrev pub summarised : ℕ → Option Parsed → Outcome Summary
-summarised command none = refused 3
-summarised command (some r) = answer (record { typ = type_of command r; digis = length r.digis; ui = ui_control r.control })
+summarised command None = refused 3
+summarised command (Some r) = answer (record { typ = type_of command r; digis = length r.digis; ui = ui_control r.control })
 
 -- "Summary 1, 2, 3."
 unfoldable pub summary_of : ℕ → List ℕ → Outcome Summary
@@ -47,8 +47,8 @@ pub record Decoded : Type 0 where
   pub bytes : List ℕ
 
 abbrev pub or_seven : ℕ → Option (List ℕ) → Outcome Decoded
-or_seven command none = refused 7
-or_seven command (some d) = answer (record { command = command; bytes = d })
+or_seven command None = refused 7
+or_seven command (Some d) = answer (record { command = command; bytes = d })
 
 -- by bits 4 and 5 of the header: 0 and 1 are frames, 2 is generic
 unfoldable pub decode_message : Bool → ℕ → List ℕ → Outcome Decoded

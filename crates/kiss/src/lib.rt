@@ -6,7 +6,7 @@ mod lengths;
 mod summaries;
 
 ghost use Rattle.std.specs.Prelude.{◌≡◌, ◌≤◌, ◌<◌, length, get_or, drop};
-ghost use Rattle.std.proofs.Math.Option.{some};
+ghost use Rattle.std.specs.Prelude.{Some};
 ghost use Rattle.laws.specs.Bits.{unpack};
 ghost use Rattle.refusals.specs.Outcome.{answer};
 ghost use Rattle.ax25.specs.Decode.{read_frame};
@@ -61,7 +61,7 @@ fn first_room(n: usize, most: usize) -> usize
 
 // A frame whose record is found. The first run measures here too; what it wrote whole to the array is not coded again.
 fn encode_found(command: u8, data: &[u8], r: Record, out: &mut [u8]) -> Encoded
-    requires { (length «data».now ≤ 4999) × (some (record_of r) ≡ seen_of command (parse_of (call_len command) «data».now)) }
+    requires { (length «data».now ≤ 4999) × (Some (record_of r) ≡ seen_of command (parse_of (call_len command) «data».now)) }
     ensures { (encoded_of result, out.new) ≡ code_into (encode_of command «data».now) out.old }
 {
     let typ = r.aprs_type;

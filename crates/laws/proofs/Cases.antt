@@ -2,7 +2,8 @@
 -- Assumes nothing.
 use mathlib.Core.Path.{◌≡◌, refl, sym, ◌∙◌}
 use mathlib.Core.Bool.{Bool, true, false, ◌&&◌, ◌||◌, not}
-use mathlib.Core.Option.{Option, none, some, none-ne-some}
+use Rattle.std.proofs.Common.{Option, None, Some}
+use Rattle.std.proofs.lemmas.Option.{none-some}
 use Prim.Native.Nat.{ℕ, ◌≤◌, ◌<◌}
 use lib.Dec.{leb, eqb}
 use borrow.Author.Tests.{leb-true, leb-false, eqb-true, eqb-false, not-true}
@@ -28,9 +29,9 @@ module _ {ℓ} {P : Type ℓ} where
   pub by_eq : (a b : ℕ) → (a ≡ b → P) → ((a ≡ b → ⊥) → P) → P
   by_eq a b f g = by_test (eqb a b) (λ e. f (eqb-true a b e)) (λ e. g (eqb-false a b e))
 
-  pub by_option : {A : Type 0} (o : Option A) → (o ≡ none → P) → ((a : A) → o ≡ some a → P) → P
-  by_option none f g = f refl
-  by_option (some a) f g = g a refl
+  pub by_option : {A : Type 0} (o : Option A) → (o ≡ None → P) → ((a : A) → o ≡ Some a → P) → P
+  by_option None f g = f refl
+  by_option (Some a) f g = g a refl
 
 -- ---- tests taken apart
 
@@ -55,9 +56,9 @@ or_back true b e f = refl
 or_back false b e f = sym f ∙ e
 
 -- a `do` that gives a value had one to go on with
-pub from_some : {A B : Type 0} {P : Type 0} (o : Option A) (f : A → Option B) (b : B) → (o >>= f) ≡ some b → ((a : A) → o ≡ some a → f a ≡ some b → P) → P
-from_some none f b e k = absurd (none-ne-some b e)
-from_some (some a) f b e k = k a refl e
+pub from_some : {A B : Type 0} {P : Type 0} (o : Option A) (f : A → Option B) (b : B) → (o >>= f) ≡ Some b → ((a : A) → o ≡ Some a → f a ≡ Some b → P) → P
+from_some None f b e k = absurd (none-some b e)
+from_some (Some a) f b e k = k a refl e
 
 -- ---- two tests that go the same way
 

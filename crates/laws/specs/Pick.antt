@@ -1,7 +1,7 @@
 -- A choice by a test, and a value that may be missing.
 -- Assumes nothing.
 use Rattle.std.specs.Prelude.{Bool, true, false}
-use Rattle.std.proofs.Math.Option.{Option, none, some}
+use Rattle.std.specs.Prelude.{Option, None, Some}
 
 infixl 1 ◌>>=◌
 -- the first where the test holds, else the second
@@ -11,5 +11,5 @@ pick false x y = y
 
 -- `do` goes on with the value, or ends with nothing
 abbrev pub ◌>>=◌ : {A B : Type 0} → Option A → (A → Option B) → Option B
-◌>>=◌ none f = none
-◌>>=◌ (some a) f = f a
+◌>>=◌ None f = None
+◌>>=◌ (Some a) f = f a

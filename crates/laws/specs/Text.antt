@@ -1,7 +1,7 @@
 -- Texts as lists of bytes.
 -- Assumes nothing.
 use Rattle.std.specs.Prelude.{Bool, true, false, ◌&&◌, ◌||◌, List, [], ◌∷◌, ◌++◌, ℕ, suc, ◌-◌, length, replicate, eqb, leb}
-use Rattle.std.proofs.Math.Option.{Option, none, some}
+use Rattle.std.specs.Prelude.{Option, None, Some}
 use Prim.Native.Char.{code}
 use Prim.Native.String as S
 use Prim.Native.String.{String}
@@ -43,13 +43,13 @@ starts (c ∷ w) [] = false
 starts (c ∷ w) (d ∷ s) = eqb c d && starts w s
 
 unfoldable pub later : Option ℕ → Option ℕ
-later none = none
-later (some i) = some (suc i)
+later None = None
+later (Some i) = Some (suc i)
 
 -- the first place of a byte
 unfoldable pub position : ℕ → List ℕ → Option ℕ
-position x [] = none
-position x (y ∷ ys) = pick (eqb x y) (some 0) (later (position x ys))
+position x [] = None
+position x (y ∷ ys) = pick (eqb x y) (Some 0) (later (position x ys))
 
 -- blanks behind a text up to n bytes
 unfoldable pub filled : ℕ → List ℕ → List ℕ

@@ -3,7 +3,7 @@
 use mathlib.Core.Path.{◌≡◌, refl, ap, ◌∙◌}
 use mathlib.Core.Bool.{Bool, true, false}
 use mathlib.Core.List.{List, [], map}
-use mathlib.Core.Option.{none, some}
+use Rattle.std.proofs.Common.{None, Some}
 use Prim.Native.Nat.{ℕ, ◌+◌, ◌-◌, ◌*◌, ◌≤◌, ◌<◌}
 use native.Mathlib.Omega.{arith}
 use lib.ListN.{length, get_or, take, drop, length-take, length-drop}
@@ -84,7 +84,7 @@ behind_size d k = ap length (from_place d k) ∙ length-drop k d
 
 -- ---- a frame
 
-pub has_count : (l n : ℕ) (d : List ℕ) → some n ≡ count_of (parse_of l d) → Has l d n
+pub has_count : (l n : ℕ) (d : List ℕ) → Some n ≡ count_of (parse_of l d) → Has l d n
 has_count l n d e = found_has l d (Found n) e n refl
 
 -- where its parts stand
@@ -94,18 +94,18 @@ pub record Sizes (l n size : ℕ) : Type 0 where
   pub behind : n * (l + 1) ≤ size - 2 * (l + 1)
   pub end : (n + 2) * (l + 1) + 2 ≤ size
 
-pub sizes : (l n : ℕ) (d : List ℕ) → some n ≡ count_of (parse_of l d) → Sizes l n (length d)
+pub sizes : (l n : ℕ) (d : List ℕ) → Some n ≡ count_of (parse_of l d) → Sizes l n (length d)
 sizes l n d e =
     let has = has_count l n d e in
     let m = add-mul n 2 (l + 1) in
     record { few = has.few; front = omega (arith, has.total, m); behind = omega (arith, has.total, m); end = omega (arith, has.total) }
 
 module _ (l : ℕ) (d : List ℕ) where
-  pub monitor_none : parse_of l d ≡ none → monitor_of l d ≡ shown d
+  pub monitor_none : parse_of l d ≡ None → monitor_of l d ≡ shown d
   unfolding monitor_of lined_or
   monitor_none e = rw e
 
-  pub monitor_some : (r : Parsed) → parse_of l d ≡ some r → monitor_of l d ≡ lined_of r
+  pub monitor_some : (r : Parsed) → parse_of l d ≡ Some r → monitor_of l d ≡ lined_of r
   unfolding monitor_of lined_or
   monitor_some r e = rw e
 

@@ -1,7 +1,7 @@
 -- Frames in the form that packet people read.
 -- Assumes nothing.
 use Rattle.std.specs.Prelude.{Bool, true, false, ◌&&◌, ◌||◌, not, List, [], ◌∷◌, ◌++◌, ℕ}
-use Rattle.std.proofs.Math.Option.{Option, none, some}
+use Rattle.std.specs.Prelude.{Option, None, Some}
 use Rattle.laws.specs.Pick.{pick}
 use Rattle.laws.specs.Text.{ascii}
 use Rattle.ax25_address.specs.Parse.{Parsed, parse_of}
@@ -28,8 +28,8 @@ lined_of r = shown r.src ++ (ascii ">" ++ (shown r.dest ++ (via_of r.digis r.hea
 
 -- bytes that are too short for a frame are shown as they are
 unfoldable pub lined_or : List ℕ → Option Parsed → List ℕ
-lined_or d none = shown d
-lined_or d (some r) = lined_of r
+lined_or d None = shown d
+lined_or d (Some r) = lined_of r
 
 -- the frame of address fields of l letters
 unfoldable pub monitor_of : ℕ → List ℕ → List ℕ

@@ -2,7 +2,7 @@
 #![tactic(auto)]
 
 ghost use Rattle.std.specs.Prelude.{◌≡◌, map, ◌+◌, ◌*◌, ◌^◌, ◌≤◌, ◌<◌, length};
-ghost use Rattle.std.proofs.Math.Option.{some};
+ghost use Rattle.std.specs.Prelude.{Some};
 ghost use Rattle.laws.specs.Wrote.{Wrote};
 ghost use Rattle.ax25_token.specs.Put.{cased_of};
 ghost use Rattle.ax25_address.specs.Address.{addr_call, heard_in};
@@ -72,7 +72,7 @@ fn put_via(f: &[u8], l: usize, n: usize, out: &mut [u8], at: usize) -> usize
 
 // A frame of n digipeaters. The next place.
 fn put_frame(frame: &[u8], l: usize, n: usize, out: &mut [u8], at: usize) -> usize
-    requires { (l ≤ 7) × (some n ≡ count_of (parse_of l frame.now)) × (length frame.now < 2 ^ 56) × (at < 2 ^ 57) }
+    requires { (l ≤ 7) × (Some n ≡ count_of (parse_of l frame.now)) × (length frame.now < 2 ^ 56) × (at < 2 ^ 57) }
     ensures { Wrote out.old at (monitor_of l frame.now) out.new result × (result ≤ at + length frame.now * 6 + 700) }
 {
     let end = addr_end(n, l);

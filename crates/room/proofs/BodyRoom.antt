@@ -3,7 +3,8 @@
 use mathlib.Core.Path.{◌≡◌, sym, ◌∙◌}
 use mathlib.Core.Bool.{Bool, true, false}
 use mathlib.Core.List.{List, [], ◌∷◌, ◌++◌}
-use mathlib.Core.Option.{some, none-ne-some, some-injective}
+use Rattle.std.proofs.Common.{Some}
+use Rattle.std.proofs.lemmas.Option.{none-some, same_Some}
 use Prim.Native.Nat.{ℕ, ◌+◌, ◌-◌, ◌*◌, ◌/◌, ◌≤◌}
 use native.Mathlib.Omega.{arith}
 use lib.ListN.{length, drop, length-append, length-drop, length-replicate}
@@ -33,16 +34,16 @@ high_room b = text_room true b
 
 -- ---- positions
 
-place_room : (b : List Bool) (i : List ℕ) → read_latlon b ≡ some i → (54 ≤ length b) × (length i ≤ 23 + 8 * ((length b - 54) / 7))
+place_room : (b : List Bool) (i : List ℕ) → read_latlon b ≡ Some i → (54 ≤ length b) × (length i ≤ 23 + 8 * ((length b - 54) / 7))
 place_room b i e =
     let n = table_end b + 29 in
     by_le n (length b)
     (λ h.
     let t = read_text true (drop n b) in
-    let s = some-injective (lat_text b ++ (lon_text b ++ t)) i (sym (latlon_some b h) ∙ e) in
+    let s = same_Some (lat_text b ++ (lon_text b ++ t)) i (sym (latlon_some b h) ∙ e) in
     rw (← s)
     (omega (arith, end_around b), omega (arith, end_around b, length-append (lat_text b) (lon_text b ++ t), length-append (lon_text b) t, lat_text_size b, lon_text_size b, high_room (drop n b), length-drop n b)))
-    (λ h. absurd (none-ne-some i (sym (latlon_none b h) ∙ e)))
+    (λ h. absurd (none-some i (sym (latlon_none b h) ∙ e)))
 
 -- ---- bodies
 
@@ -50,40 +51,40 @@ place_room b i e =
 abbrev pub Short : List Bool → List ℕ → Type 0
 Short b i = length i ≤ 11 + 8 * ((length b - 6) / 7)
 
-timestamped_room : (b : List Bool) (i : List ℕ) → read_timestamped b ≡ some i → Short b i
+timestamped_room : (b : List Bool) (i : List ℕ) → read_timestamped b ≡ Some i → Short b i
 timestamped_room b i e =
     by_le 20 (length b)
     (λ h.
     from_some (read_latlon (drop 20 b)) _ i (sym (timestamped_some b h) ∙ e)
     (λ t et f.
     let d = padded 6 (field_of 0 20 b) in
-    rw (← some-injective ((0x40 ∷ d ++ 0x68 ∷ []) ++ t) i f)
+    rw (← same_Some ((0x40 ∷ d ++ 0x68 ∷ []) ++ t) i f)
     (let p = place_room (drop 20 b) t et in
     omega (arith, length-append (0x40 ∷ d ++ 0x68 ∷ []) t, length-append d (0x68 ∷ []), length_padded 6 (field_of 0 20 b), length-drop 20 b))))
-    (λ h. absurd (none-ne-some i (sym (timestamped_none b h) ∙ e)))
+    (λ h. absurd (none-some i (sym (timestamped_none b h) ∙ e)))
 
 filled_size : (n : ℕ) (s : List ℕ) → length (filled n s) ≡ length s + (n - length s)
 unfolding filled
 filled_size n s = rw (length-append, length-replicate)
 
-message_room : (mended : Bool) (l : ℕ) (b : List Bool) (i : List ℕ) → read_message mended l b ≡ some i → Short b i
+message_room : (mended : Bool) (l : ℕ) (b : List Bool) (i : List ℕ) → read_message mended l b ≡ Some i → Short b i
 unfolding read_message
 message_room mended l b i e =
     from_some (read_token mended l b) _ i e
     (λ c ec f.
     let t = read_text false c.1 in
     let k = token_room mended l b c ec in
-    rw (← some-injective (0x3A ∷ filled 9 c.0 ++ 0x3A ∷ t) i f)
+    rw (← same_Some (0x3A ∷ filled 9 c.0 ++ 0x3A ∷ t) i f)
     (omega (arith, length-append (filled 9 c.0) (0x3A ∷ t), filled_size 9 c.0, plain_room c.1)))
 
-pub body_room : (mended : Bool) (typ l : ℕ) (b : List Bool) (i : List ℕ) → read_body mended typ l b ≡ some i → Short b i
+pub body_room : (mended : Bool) (typ l : ℕ) (b : List Bool) (i : List ℕ) → read_body mended typ l b ≡ Some i → Short b i
 unfolding read_body pick
 body_room mended typ l b i e =
     by_test (eqb typ Text)
-    (λ t. rw (← some-injective (read_text false b) i (rw t at e)) (omega (arith, plain_room b)))
+    (λ t. rw (← same_Some (read_text false b) i (rw t at e)) (omega (arith, plain_room b)))
     (λ t. by_test (eqb typ Position)
     (λ u. from_some (read_latlon b) _ i (rw (t, u) at e)
-    (λ p ep f. rw (← some-injective (0x21 ∷ p) i f) (let h = place_room b p ep in omega arith)))
+    (λ p ep f. rw (← same_Some (0x21 ∷ p) i f) (let h = place_room b p ep in omega arith)))
     (λ u. by_test (eqb typ TimestampedPosition)
     (λ v. timestamped_room b i (rw (t, u, v) at e))
     (λ v. message_room mended l b i (rw (t, u, v) at e))))
@@ -105,7 +106,7 @@ party_of a c d t = ascii "}" ++ (a ++ (ascii ">" ++ (c ++ (ascii ",TCPIP," ++ (d
 pub party_size : (a c d t : List ℕ) → length (party_of a c d t) ≡ 11 + (length a + length c + length d) + length t
 party_size a c d t = simp length-append (omega arith)
 
-pub third_room : (mended : Bool) (l : ℕ) (b : List Bool) (i : List ℕ) → read_third mended l b ≡ some i → Passed b i
+pub third_room : (mended : Bool) (l : ℕ) (b : List Bool) (i : List ℕ) → read_third mended l b ≡ Some i → Passed b i
 unfolding read_third
 third_room mended l b i e =
     from_some (read_token mended l b) _ i e
@@ -118,7 +119,7 @@ third_room mended l b i e =
     let y = token_room mended l c.1 d ed in
     let z = token_room mended l d.1 p ep in
     let u = (take_left 2 p.1 k ek).0 in
-    rw (← some-injective (party_of c.0 d.0 p.0 t) i n)
+    rw (← same_Some (party_of c.0 d.0 p.0 t) i n)
     (record {
       bits = length b - length p.1;
       letters = length c.0 + length d.0 + length p.0;

@@ -3,7 +3,7 @@
 use mathlib.Core.Path.{◌≡◌, refl, sym}
 use mathlib.Core.Bool.{Bool}
 use mathlib.Core.List.{List, [], ◌∷◌}
-use mathlib.Core.Option.{Option, none, some, get_or}
+use Rattle.std.proofs.Common.{Option, None, Some, unwrap_or}
 use Prim.Native.Nat.{ℕ, ◌-◌, ◌/◌, ◌%◌, ◌≤◌}
 use native.Mathlib.Omega.{arith}
 use lib.ListN.{length}
@@ -31,14 +31,14 @@ generic_room header rest h =
     (λ e. rw e (back (text7_of (unpack rest) 0) (text7_room (unpack rest) 0)))
     (λ e. rw e (omega arith))
   where
-    back : (o : Option (List ℕ)) → ((t : List ℕ) → o ≡ some t → length t ≤ (length (unpack rest) - 0) / 7) → length (get_or o []) ≤ most_decoded
-    back none k = omega arith
-    back (some t) k = omega (arith, k t refl, length_unpack rest)
+    back : (o : Option (List ℕ)) → ((t : List ℕ) → o ≡ Some t → length t ≤ (length (unpack rest) - 0) / 7) → length (unwrap_or o []) ≤ most_decoded
+    back None k = omega arith
+    back (Some t) k = omega (arith, k t refl, length_unpack rest)
 
-seven_room : (command : ℕ) (o : Option (List ℕ)) (r : Decoded) → ((d : List ℕ) → o ≡ some d → length d ≤ most_decoded) → or_seven command o ≡ answer r
+seven_room : (command : ℕ) (o : Option (List ℕ)) (r : Decoded) → ((d : List ℕ) → o ≡ Some d → length d ≤ most_decoded) → or_seven command o ≡ answer r
     → length r.bytes ≤ most_decoded
-seven_room command none r h e = absurd (answer_not (sym e))
-seven_room command (some d) r h e =
+seven_room command None r h e = absurd (answer_not (sym e))
+seven_room command (Some d) r h e =
     let q : d ≡ r.bytes = cc in
     rw (← q) (h d refl)
 

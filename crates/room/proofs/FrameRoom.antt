@@ -3,7 +3,8 @@
 use mathlib.Core.Path.{◌≡◌}
 use mathlib.Core.Bool.{Bool, true, false}
 use mathlib.Core.List.{List, [], ◌∷◌, ◌++◌}
-use mathlib.Core.Option.{some, some-injective}
+use Rattle.std.proofs.Common.{Some}
+use Rattle.std.proofs.lemmas.Option.{same_Some}
 use Prim.Native.Nat.{ℕ, ◌+◌, ◌-◌, ◌*◌, ◌/◌, ◌≤◌}
 use native.Mathlib.Omega.{arith}
 use lib.ListN.{length, length-append}
@@ -23,13 +24,13 @@ use Rattle.room.proofs.HeadRoom.{head_room}
 
 -- ---- the body
 
-info_room : (mended : Bool) (l typ : ℕ) (all b : List Bool) (i : List ℕ) {P : Type 0} → read_info mended l typ all b ≡ some i → (Short b i → P) → (typ ≡ ThirdParty → Passed b i → P) → P
+info_room : (mended : Bool) (l typ : ℕ) (all b : List Bool) (i : List ℕ) {P : Type 0} → read_info mended l typ all b ≡ Some i → (Short b i → P) → (typ ≡ ThirdParty → Passed b i → P) → P
 unfolding read_info bytes_in pick
 info_room mended l typ all b i e f g =
     by_test (eqb typ Text)
     (λ t. let h = text7_room all (length all - length b) i (rw t at e) in f (omega arith))
     (λ t. by_test (eqb typ Binary)
-    (λ u. f (rw (← some-injective (bytes_in b) i (rw (t, u) at e)) (omega (arith, length_pack_n (length b / 8) b))))
+    (λ u. f (rw (← same_Some (bytes_in b) i (rw (t, u) at e)) (omega (arith, length_pack_n (length b / 8) b))))
     (λ u. by_test (eqb typ ThirdParty)
     (λ v. g (eqb-true typ ThirdParty v) (third_room mended l b i (rw (t, u, v) at e)))
     (λ v. f (body_room mended typ l b i (rw (t, u, v) at e)))))
@@ -56,7 +57,7 @@ third_sum n k b e bits letters few long h three each within s =
     let q = (e - (bits + 8)) / 7 in
     by_le n 6 (λ m. omega arith) (λ m. let most : q ≤ 5705 = omega arith in omega arith)
 
-pub frame_room : (mended : Bool) (l header : ℕ) (b : List Bool) (d : List ℕ) → l ≤ 7 → length b ≤ 39992 → read_frame mended l header b ≡ some d → length d ≤ most_decoded
+pub frame_room : (mended : Bool) (l header : ℕ) (b : List Bool) (d : List ℕ) → l ≤ 7 → length b ≤ 39992 → read_frame mended l header b ≡ Some d → length d ≤ most_decoded
 unfolding read_frame
 frame_room mended l header b d low long e =
     from_some (read_head mended l (digi_count header) b) _ d e
@@ -72,5 +73,5 @@ frame_room mended l header b d low long e =
     info_room mended l r.0.typ b r.1 i ei
     (λ s. short_sum n (length i) (length b) (length r.1) few long h.head s)
     (λ t s. third_sum n (length i) (length b) (length r.1) s.bits s.letters few long (h.third_head t) s.three s.each s.within s.size) in
-    rw (← some-injective (addresses l calls heard ++ (ui ++ i)) d g)
+    rw (← same_Some (addresses l calls heard ++ (ui ++ i)) d g)
     (omega (arith, length-append (addresses l calls heard) (ui ++ i), length-append ui i, addresses_size l low calls heard, ui_size (odd (header / 64)), h.count))))

@@ -3,7 +3,8 @@
 use mathlib.Core.Path.{◌≡◌, refl, ap}
 use mathlib.Core.Bool.{Bool, true, false}
 use mathlib.Core.List.{List, [], ◌∷◌}
-use mathlib.Core.Option.{some, none-ne-some, some-injective}
+use Rattle.std.proofs.Common.{Some}
+use Rattle.std.proofs.lemmas.Option.{none-some, same_Some}
 use Prim.Native.Nat.{ℕ, zero, suc, ◌+◌, ◌*◌, ◌≤◌}
 use native.Mathlib.Omega.{arith}
 use lib.ListN.{length, drop, length-drop}
@@ -27,43 +28,43 @@ abbrev Named : ℕ → List Bool → List (List ℕ) × List Bool → Type 0
 Named n b v = (length v.0 ≡ n) × (n + 2 * length v.1 ≤ 2 * length b)
 
 module _ (mended : Bool) (l : ℕ) where
-  tokens_room : (n : ℕ) (b : List Bool) (v : List (List ℕ) × List Bool) → read_tokens mended l n b ≡ some v → n + length v.1 ≤ length b
+  tokens_room : (n : ℕ) (b : List Bool) (v : List (List ℕ) × List Bool) → read_tokens mended l n b ≡ Some v → n + length v.1 ≤ length b
   unfolding read_tokens
-  tokens_room zero b v e = rw (← some-injective ([], b) v e) (omega arith)
+  tokens_room zero b v e = rw (← same_Some ([], b) v e) (omega arith)
   tokens_room (suc n) b v e =
       from_some (read_token mended l b) _ v e
       (λ c ec f. from_some (read_tokens mended l n c.1) _ v f
       (λ w ew g.
       let t = token_room mended l b c ec in
       let r = tokens_room n c.1 w ew in
-      rw (← some-injective (c.0 ∷ w.0, w.1) v g) (omega arith)))
+      rw (← same_Some (c.0 ∷ w.0, w.1) v g) (omega arith)))
 
-  tokens_named : (n : ℕ) (b : List Bool) (v : List (List ℕ) × List Bool) → read_tokens mended l n b ≡ some v → Named n b v
+  tokens_named : (n : ℕ) (b : List Bool) (v : List (List ℕ) × List Bool) → read_tokens mended l n b ≡ Some v → Named n b v
   tokens_named n b v e = (tokens_count mended l n b v e, omega (arith, tokens_room n b v e))
 
-  alias_room : (n : ℕ) (b : List Bool) (v : List (List ℕ) × List Bool) → read_alias n b ≡ some v → (length v.0 ≡ n) × (3 + length v.1 ≤ length b)
+  alias_room : (n : ℕ) (b : List Bool) (v : List (List ℕ) × List Bool) → read_alias n b ≡ Some v → (length v.0 ≡ n) × (3 + length v.1 ≤ length b)
   unfolding read_alias
   alias_room n b v e =
       from_some (take_bits 3 b) _ v e
       (λ k ek f. from_some (name_at k.0 aliases) _ v f
-      (λ a ea g. rw (← some-injective (alias_calls a 1 n, k.1) v g) (alias_count a 1 n, omega (arith, (take_left 3 b k ek).0))))
+      (λ a ea g. rw (← same_Some (alias_calls a 1 n, k.1) v g) (alias_count a 1 n, omega (arith, (take_left 3 b k ek).0))))
 
-  aliased_room : (n : ℕ) (b : List Bool) (v : List (List ℕ) × List Bool) → n ≤ 8 → read_aliased mended l n b ≡ some v → Named n b v
+  aliased_room : (n : ℕ) (b : List Bool) (v : List (List ℕ) × List Bool) → n ≤ 8 → read_aliased mended l n b ≡ Some v → Named n b v
   unfolding read_aliased pick
-  aliased_room n [] v h e = absurd (none-ne-some v e)
+  aliased_room n [] v h e = absurd (none-some v e)
   aliased_room n (true ∷ b) v h e = let a = alias_room n b v e in (a.0, omega (arith, a.1))
   aliased_room n (false ∷ b) v h e = let t = tokens_named n b v e in (t.0, omega (arith, t.1))
 
-  digis_room : (ap : Bool) (n : ℕ) (b : List Bool) (v : List (List ℕ) × List Bool) → n ≤ 8 → read_digis mended l ap n b ≡ some v → Named n b v
+  digis_room : (ap : Bool) (n : ℕ) (b : List Bool) (v : List (List ℕ) × List Bool) → n ≤ 8 → read_digis mended l ap n b ≡ Some v → Named n b v
   unfolding read_digis pick
-  digis_room ap zero b v h e = rw (← some-injective ([], b) v e) (refl, omega arith)
+  digis_room ap zero b v h e = rw (← same_Some ([], b) v e) (refl, omega arith)
   digis_room true (suc n) b v h e = aliased_room (suc n) b v h e
   digis_room false (suc n) b v h e = tokens_named (suc n) b v e
 
 -- ---- the type
 
 -- one bit, and three where it is a third party's
-type_room : (ap : Bool) (b : List Bool) (t : ℕ × List Bool) → take_bits (type_width ap) b ≡ some t
+type_room : (ap : Bool) (b : List Bool) (t : ℕ × List Bool) → take_bits (type_width ap) b ≡ Some t
     → (1 + length t.1 ≤ length b) × (t.0 ≡ ThirdParty → 3 + length t.1 ≤ length b)
 unfolding pick
 type_room true b t e = let h = take_left 3 b t e in (omega (arith, h.0), λ _. omega (arith, h.0))
@@ -77,7 +78,7 @@ pub record Headed (n : ℕ) (b : List Bool) (p : Head × List Bool) : Type 0 whe
   pub head : 3 * n + 26 + 2 * length p.1 ≤ 2 * length b
   pub third_head : p.0.typ ≡ ThirdParty → 3 * n + 30 + 2 * length p.1 ≤ 2 * length b
 
-pub head_room : (mended : Bool) (l n : ℕ) (b : List Bool) (p : Head × List Bool) → n ≤ 8 → read_head mended l n b ≡ some p → Headed n b p
+pub head_room : (mended : Bool) (l n : ℕ) (b : List Bool) (p : Head × List Bool) → n ≤ 8 → read_head mended l n b ≡ Some p → Headed n b p
 unfolding read_head
 head_room mended l n b p few e =
     from_some (split_off n b) _ p e

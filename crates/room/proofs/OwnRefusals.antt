@@ -3,7 +3,7 @@
 use mathlib.Core.Path.{◌≡◌, refl, sym, ap, ◌∙◌}
 use mathlib.Core.Bool.{Bool, true, false, true≢false, ◌&&◌}
 use mathlib.Core.List.{List, [], ◌∷◌, ◌++◌}
-use mathlib.Core.Option.{Option, none, some}
+use Rattle.std.proofs.Common.{Option, None, Some}
 use Prim.Native.Nat.{ℕ, ◌/◌, ◌%◌}
 use lib.ListN.{length, drop, take}
 use lib.Dec.{eqb, ltb}
@@ -55,12 +55,12 @@ both (answer a) (refused n) f g = g
 both (answer a) (answer b) f g = yes is_coders (a ++ b)
 
 four : (o : Option (List Bool)) → RefusesBy is_coders (or_refused 4 o)
-four none = no is_coders 4 refl
-four (some b) = yes is_coders b
+four None = no is_coders 4 refl
+four (Some b) = yes is_coders b
 
 five : (o : Option (List Bool)) → RefusesBy is_coders (or_refused 5 o)
-five none = no is_coders 5 refl
-five (some b) = yes is_coders b
+five None = no is_coders 5 refl
+five (Some b) = yes is_coders b
 
 three : {A : Type 0} → RefusesBy {A = A} is_coders (refused 3)
 three = no is_coders 3 refl
@@ -151,16 +151,16 @@ unfolding code_parsed
 parsed_own command r = by (head_bits (call_len command) r (type_of command r))
   where
     by : (o : Option (List Bool)) → RefusesBy is_coders (or_four o (λ head. packed (header_of command r) (type_of command r) (frame_bits (call_len command) r (type_of command r) head)))
-    by none = no is_coders 4 refl
-    by (some head) = packed_own (header_of command r) (type_of command r) (frame_bits (call_len command) r (type_of command r) head) (frame_own (call_len command) r (type_of command r) head)
+    by None = no is_coders 4 refl
+    by (Some head) = packed_own (header_of command r) (type_of command r) (frame_bits (call_len command) r (type_of command r) head) (frame_own (call_len command) r (type_of command r) head)
 
 encode_own : (command : ℕ) (d : List ℕ) → RefusesBy is_coders (encode_of command d)
 unfolding encode_of
 encode_own command d = by (parse_of (call_len command) d)
   where
     by : (o : Option Parsed) → RefusesBy is_coders (or_three o (code_parsed command))
-    by none = three
-    by (some r) = parsed_own command r
+    by None = three
+    by (Some r) = parsed_own command r
 
 -- ---- the calls
 
@@ -172,8 +172,8 @@ code_own command d =
     (either is_coders (eqb command Generic) (yes is_coders _) (encode_own command d)))
 
 seven_own : (command : ℕ) (o : Option (List ℕ)) → RefusesBy is_not_short (or_seven command o)
-seven_own command none = no is_not_short 7 refl
-seven_own command (some d) = yes is_not_short (record { command = command; bytes = d })
+seven_own command None = no is_not_short 7 refl
+seven_own command (Some d) = yes is_not_short (record { command = command; bytes = d })
 
 message_frame_own : (mended : Bool) (header : ℕ) (rest : List ℕ) → RefusesBy is_not_short (decode_message mended header rest)
 unfolding decode_message

@@ -4,7 +4,7 @@
 use mathlib.Core.Path.{◌≡◌, refl, ap, ◌∙◌}
 use mathlib.Core.Bool.{Bool, true, false}
 use mathlib.Core.List.{List, [], ◌∷◌, ◌++◌}
-use mathlib.Core.Option.{some}
+use Rattle.std.proofs.Common.{Some}
 use Prim.Native.Nat.{ℕ, zero, suc, ◌+◌, ◌*◌, ◌<◌}
 use native.Mathlib.Omega.{arith}
 use lib.ListN.{length, drop, length-append, length-replicate, replicate, get_or}
@@ -72,17 +72,17 @@ text_size (suc k) =
 
 -- ---- the calls
 
-named_reads : (l : ℕ) (r : List Bool) → read_token false l (bits_of 6 47 ++ r) ≡ some (ascii "APBPQ1", r)
+named_reads : (l : ℕ) (r : List Bool) → read_token false l (bits_of 6 47 ++ r) ≡ Some (ascii "APBPQ1", r)
 unfolding cases.name_at
 named_reads l r =
     token_form false l (bits_of 6 47 ++ r) 47 r (take_bits_lem 6 47 r) ∙ rw (form_ap_name 47 (omega arith) (omega arith), read_name false l r (ascii "APBPQ1"))
 
 -- WIDE2-3 is read so, under the original reading
-wide_number_lem : (r : List Bool) → wide_number false 2 (bits_of 2 3 ++ r) ≡ some (11, r)
+wide_number_lem : (r : List Bool) → wide_number false 2 (bits_of 2 3 ++ r) ≡ Some (11, r)
 unfolding wide_number bits_of odd num val_of val_from stops next_val pick
 wide_number_lem r = text_yes 2 (true ∷ true ∷ r) (omega arith)
 
-wide_reads : (l : ℕ) (r : List Bool) → read_token false l (bits_of 6 37 ++ (bits_of 1 1 ++ (bits_of 2 3 ++ r))) ≡ some (ascii "WIDE2-11", r)
+wide_reads : (l : ℕ) (r : List Bool) → read_token false l (bits_of 6 37 ++ (bits_of 1 1 ++ (bits_of 2 3 ++ r))) ≡ Some (ascii "WIDE2-11", r)
 unfolding cases.name_at after suffix decimal two_digits pick
 wide_reads l r =
     let s = bits_of 2 3 ++ r in
@@ -98,14 +98,14 @@ call = ascii "APBPQ1"
 abbrev theirs : List ℕ → List ℕ
 theirs t = 0x3A ∷ filled 9 call ++ 0x3A ∷ t
 
-message_reads : (b : List Bool) → read_body false Message 7 (bits_of 6 47 ++ b) ≡ some (theirs (read_text false b))
+message_reads : (b : List Bool) → read_body false Message 7 (bits_of 6 47 ++ b) ≡ Some (theirs (read_text false b))
 unfolding read_body read_message pick
 message_reads b = rw (named_reads 7 b)
 
 abbrev body : List Bool → List Bool
 body b = bits_of 6 37 ++ (bits_of 1 1 ++ (bits_of 2 3 ++ (bits_of 6 47 ++ (bits_of 6 47 ++ (bits_of 2 2 ++ (bits_of 6 47 ++ b))))))
 
-third_reads : (b : List Bool) → read_third false 7 (body b) ≡ some (party_of (ascii "WIDE2-11") call call (theirs (read_text false b)))
+third_reads : (b : List Bool) → read_third false 7 (body b) ≡ Some (party_of (ascii "WIDE2-11") call call (theirs (read_text false b)))
 unfolding read_third pick
 third_reads b =
     let x = bits_of 6 47 ++ b in
@@ -117,7 +117,7 @@ third_reads b =
 abbrev digis : List (List ℕ)
 digis = alias_calls (ascii "WIDE") 1 8
 
-digis_reads : (b : List Bool) → read_digis false 7 true 8 (true ∷ (bits_of 3 1 ++ b)) ≡ some (digis, b)
+digis_reads : (b : List Bool) → read_digis false 7 true 8 (true ∷ (bits_of 3 1 ++ b)) ≡ Some (digis, b)
 unfolding read_digis read_aliased read_alias name_at aliases pick
 digis_reads b = rw (take_bits_lem 3 1 b)
 
@@ -127,7 +127,7 @@ head = record { dest = call; src = call; digis = digis; heard = replicate 8 fals
 abbrev frame : List Bool → List Bool
 frame b = replicate 8 false ++ (bits_of 6 47 ++ (bits_of 6 47 ++ (true ∷ (bits_of 3 1 ++ (bits_of 3 6 ++ b)))))
 
-head_reads : (b : List Bool) → read_head false 7 8 (frame b) ≡ some (head, b)
+head_reads : (b : List Bool) → read_head false 7 8 (frame b) ≡ Some (head, b)
 unfolding read_head starts pick
 head_reads b =
     let x = bits_of 3 6 ++ b in
@@ -142,7 +142,7 @@ party t = party_of (ascii "WIDE2-11") call call (theirs t)
 abbrev fields : List ℕ
 fields = addresses 7 (call ∷ call ∷ digis) (false ∷ false ∷ replicate 8 false)
 
-frame_reads : (b : List Bool) → read_frame false 7 0x5F (frame (body b)) ≡ some (fields ++ ((0x03 ∷ 0xF0 ∷ []) ++ party (read_text false b)))
+frame_reads : (b : List Bool) → read_frame false 7 0x5F (frame (body b)) ≡ Some (fields ++ ((0x03 ∷ 0xF0 ∷ []) ++ party (read_text false b)))
 unfolding read_frame read_info odd pick
 frame_reads b = rw (head_reads (body b), third_reads b)
 
@@ -214,7 +214,7 @@ module _ (message : List ℕ) (field mask : ℕ) (f : field_ok field ≡ true) (
       record {
         field_ok_holds = f;
         mask_ok_holds = m;
-        some = omega (arith, field_low field f);
+        Some = omega (arith, field_low field f);
         short = omega (arith, field_high field f);
         first_low = first_low;
         room = omega (arith, takes_three, most_three mask (mask_top mask m));

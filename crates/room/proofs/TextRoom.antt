@@ -3,7 +3,8 @@
 use mathlib.Core.Path.{◌≡◌, refl}
 use mathlib.Core.Bool.{Bool, true, false}
 use mathlib.Core.List.{List, [], ◌∷◌}
-use mathlib.Core.Option.{some, none-ne-some, some-injective}
+use Rattle.std.proofs.Common.{Some}
+use Rattle.std.proofs.lemmas.Option.{none-some, same_Some}
 use Prim.Native.Nat.{ℕ, zero, suc, ◌+◌, ◌-◌, ◌*◌, ◌/◌, ◌≤◌}
 use native.Mathlib.Omega.{arith}
 use lib.ListN.{length, take, drop, length-append}
@@ -62,10 +63,10 @@ text_room p b = omega (arith, from_room p 0 b)
 
 -- ---- text of seven bits a byte
 
-pub text7_room : (b : List Bool) (at : ℕ) (t : List ℕ) → text7_of b at ≡ some t → length t ≤ (length b - at) / 7
+pub text7_room : (b : List Bool) (at : ℕ) (t : List ℕ) → text7_of b at ≡ Some t → length t ≤ (length b - at) / 7
 unfolding text7_of
-text7_room [] at t e = absurd (none-ne-some t e)
+text7_room [] at t e = absurd (none-some t e)
 text7_room (x ∷ b) at t e =
     let k = (end_of (last_or x b) (x ∷ b) - at) / 7 in
-    rw (← some-injective (numbers 7 k (drop at (x ∷ b))) t e)
+    rw (← same_Some (numbers 7 k (drop at (x ∷ b))) t e)
     (omega (arith, length_numbers 7 k (drop at (x ∷ b)), end_le (last_or x b) (x ∷ b)))

@@ -3,7 +3,8 @@
 use mathlib.Core.Path.{◌≡◌, refl, ap, sym, ◌∙◌}
 use mathlib.Core.Bool.{◌&&◌}
 use mathlib.Core.List.{List, [], ◌∷◌, ◌++◌}
-use mathlib.Core.Option.{none, some, none-ne-some, some-injective}
+use Rattle.std.proofs.Common.{None, Some}
+use Rattle.std.proofs.lemmas.Option.{none-some, same_Some}
 use Prim.Native.Nat.{ℕ, zero, suc, ◌+◌, ◌-◌, ◌*◌, ◌/◌, ◌%◌, ◌^◌, ◌≤◌, ◌<◌}
 use native.Mathlib.Numerals.{add-one}
 use native.Mathlib.Omega.{arith}
@@ -63,15 +64,15 @@ numeral_length n = length_from 20 n
 
 module _ (v c : ℕ) where
   module _ (s : List ℕ) where
-    pub number_low : c < 48 → number_from v (c ∷ s) ≡ none
+    pub number_low : c < 48 → number_from v (c ∷ s) ≡ None
     unfolding number_from pick is_digit between
     number_low h = rw (lt-leb 48 c h)
 
-    pub number_high : 48 ≤ c → 57 < c → number_from v (c ∷ s) ≡ none
+    pub number_high : 48 ≤ c → 57 < c → number_from v (c ∷ s) ≡ None
     unfolding number_from pick is_digit between
     number_high h k = rw (le-leb 48 c h, lt-leb c 57 k)
 
-    pub number_wide : 48 ≤ c → c ≤ 57 → 2 ^ 64 ≤ v * 10 + (c - 48) → number_from v (c ∷ s) ≡ none
+    pub number_wide : 48 ≤ c → c ≤ 57 → 2 ^ 64 ≤ v * 10 + (c - 48) → number_from v (c ∷ s) ≡ None
     unfolding number_from with_digit pick is_digit between
     number_wide h k w = rw (le-leb 48 c h, le-leb c 57 k, le-ltb (v * 10 + (c - 48)) (2 ^ 64) w)
 
@@ -80,21 +81,21 @@ module _ (v c : ℕ) where
     number_on h k w = rw (le-leb 48 c h, le-leb c 57 k, lt-ltb (v * 10 + (c - 48)) (2 ^ 64) w)
 
   -- what a digit says of the rest
-  pub number_stop : (s : List ℕ) → none ≡ number_from v (c ∷ []) → number_from v (c ∷ s) ≡ none
+  pub number_stop : (s : List ℕ) → None ≡ number_from v (c ∷ []) → number_from v (c ∷ s) ≡ None
   unfolding number_from pick
   number_stop s e =
       by_test (is_digit c && ltb (with_digit v c) (2 ^ 64))
-      (λ t. absurd (none-ne-some (with_digit v c) (rw t at e)))
+      (λ t. absurd (none-some (with_digit v c) (rw t at e)))
       (λ t. rw t)
 
-  pub number_step : (s : List ℕ) (w : ℕ) → some w ≡ number_from v (c ∷ []) → number_from v (c ∷ s) ≡ number_from w s
+  pub number_step : (s : List ℕ) (w : ℕ) → Some w ≡ number_from v (c ∷ []) → number_from v (c ∷ s) ≡ number_from w s
   unfolding number_from pick
   number_step s w e =
       by_test (is_digit c && ltb (with_digit v c) (2 ^ 64))
-      (λ t. rw (t, some-injective w (with_digit v c) (rw t at e)))
-      (λ t. absurd (none-ne-some w (sym (rw t at e))))
+      (λ t. rw (t, same_Some w (with_digit v c) (rw t at e)))
+      (λ t. absurd (none-some w (sym (rw t at e))))
 
-pub decimal_none : (s : List ℕ) → length s ≡ 0 → none ≡ decimal_of s
+pub decimal_none : (s : List ℕ) → length s ≡ 0 → None ≡ decimal_of s
 unfolding decimal_of
 decimal_none [] h = refl
 decimal_none (c ∷ s) h = absurd (omega arith)
@@ -105,12 +106,12 @@ decimal_some [] h = absurd (h refl)
 decimal_some (c ∷ s) h = refl
 
 module _ (s : List ℕ) (v i : ℕ) where
-  pub number_end : length s ≤ i → number_from v (drop i s) ≡ some v
+  pub number_end : length s ≤ i → number_from v (drop i s) ≡ Some v
   unfolding number_from
   number_end h = rw (drop_of_length-le s h)
 
-  pub number_none : i < length s → none ≡ number_from v (get_or s i 0 ∷ []) → number_from v (drop i s) ≡ none
+  pub number_none : i < length s → None ≡ number_from v (get_or s i 0 ∷ []) → number_from v (drop i s) ≡ None
   number_none h e = rw (drop-cons s i 0 h) (number_stop v (get_or s i 0) (drop (suc i) s) e)
 
-  pub number_next : i < length s → (w : ℕ) → some w ≡ number_from v (get_or s i 0 ∷ []) → number_from w (drop (i + 1) s) ≡ number_from v (drop i s)
+  pub number_next : i < length s → (w : ℕ) → Some w ≡ number_from v (get_or s i 0 ∷ []) → number_from w (drop (i + 1) s) ≡ number_from v (drop i s)
   number_next h w e = rw (drop-cons s i 0 h, add-one i) (sym (number_step v (get_or s i 0) (drop (suc i) s) w e))

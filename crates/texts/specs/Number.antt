@@ -1,7 +1,7 @@
 -- Decimal numbers of at most 64 bits.
 -- Assumes nothing.
 use Rattle.std.specs.Prelude.{◌&&◌, List, [], ◌∷◌, ◌++◌, ℕ, zero, suc, ◌+◌, ◌-◌, ◌*◌, ◌/◌, ◌%◌, ◌^◌, ltb}
-use Rattle.std.proofs.Math.Option.{Option, none, some}
+use Rattle.std.specs.Prelude.{Option, None, Some}
 use Rattle.laws.specs.Pick.{pick}
 use Rattle.laws.specs.Text.{is_digit}
 use Rattle.texts.specs.declared.number.Number.{Number}
@@ -22,15 +22,15 @@ with_digit v c = v * 10 + (c - 48)
 
 -- a number with digits behind it; none where there is another byte, or more than 64 bits
 unfoldable pub number_from : ℕ → List ℕ → Option ℕ
-number_from v [] = some v
-number_from v (c ∷ s) = pick (is_digit c && ltb (with_digit v c) (2 ^ 64)) (number_from (with_digit v c) s) none
+number_from v [] = Some v
+number_from v (c ∷ s) = pick (is_digit c && ltb (with_digit v c) (2 ^ 64)) (number_from (with_digit v c) s) None
 
 -- the number that a text spells; none also where it is empty
 unfoldable pub decimal_of : List ℕ → Option ℕ
-decimal_of [] = none
+decimal_of [] = None
 decimal_of (c ∷ s) = number_from 0 (c ∷ s)
 
 -- the answer
 abbrev pub number_is : Number → Option ℕ
-number_is (Is v) = some v
-number_is None = none
+number_is (Is v) = Some v
+number_is None = None

@@ -3,7 +3,7 @@
 use native.Mathlib.Omega.{arith}
 use mathlib.Core.Path.{◌≡◌, sym, subst}
 use mathlib.Core.List.{List}
-use mathlib.Core.Option.{some}
+use Rattle.std.proofs.Common.{Some}
 use mathlib.Core.Bool.{Bool}
 use Prim.Native.Nat.{ℕ, ◌+◌}
 use lib.Dec.{eqb}
@@ -17,10 +17,10 @@ use Rattle.ax25.proofs.MessageCode.{bad_codes, head_room, refused_codes, body_ro
 use borrow.Author.Rules.{rules}
 use Rattle.ax25.proofs.encode.encode.Goals as goal
 
-at_record : (command l : ℕ) (d : List ℕ) (s : Seen) → l ≡ call_len command → some s ≡ seen_of command (parse_of (call_len command) d) → some s ≡ seen_of command (parse_of l d)
-at_record command l d s e f = subst (λ (m : ℕ). some s ≡ seen_of command (parse_of m d)) (sym e) f
+at_record : (command l : ℕ) (d : List ℕ) (s : Seen) → l ≡ call_len command → Some s ≡ seen_of command (parse_of (call_len command) d) → Some s ≡ seen_of command (parse_of l d)
+at_record command l d s e f = subst (λ (m : ℕ). Some s ≡ seen_of command (parse_of m d)) (sym e) f
 
-at_letters : (command l : ℕ) (d : List ℕ) (s : Seen) → l ≡ call_len command → some s ≡ seen_of command (parse_of (call_len command) d) → Known command l d s
+at_letters : (command l : ℕ) (d : List ℕ) (s : Seen) → l ≡ call_len command → Some s ≡ seen_of command (parse_of (call_len command) d) → Known command l d s
 at_letters command l d s e f = known command l d s (at_record command l d s e f)
 
 -- the header with what is known of the frame being UI

@@ -7,7 +7,7 @@ use lib.ListN.{length, length-drop}
 use lib.Dec.{eqb}
 use mathlib.Core.Bool.{◌&&◌}
 use mathlib.Core.List.{List}
-use mathlib.Core.Option.{some}
+use Rattle.std.proofs.Common.{Some}
 use Rattle.ax25_address.specs.declared.record.Record.{Record}
 use Rattle.ax25_address.specs.declared.classify.AprsType.{AprsType}
 use Rattle.ax25_address.specs.declared.classify.AprsType.TheVariants.{ThirdParty}
@@ -32,7 +32,7 @@ third_more : (t : AprsType) → t ≡ ThirdParty → 2 ≤ type_number t
 third_more t e = rw e (omega arith)
 
 -- where the parts of a frame that has a record stand
-module _ (command l : ℕ) (d : List ℕ) (r : Record) (is : some (record_of r) ≡ seen_of command (parse_of l d)) where
+module _ (command l : ℕ) (d : List ℕ) (r : Record) (is : Some (record_of r) ≡ seen_of command (parse_of l d)) where
   abbrev seen : Known command l d (record_of r)
   seen = known command l d (record_of r) is
 

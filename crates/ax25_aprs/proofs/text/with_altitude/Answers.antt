@@ -3,7 +3,7 @@
 use native.Mathlib.Omega.{arith}
 use borrow.Author.Rules.{rules}
 use mathlib.Core.Path.{◌≡◌, refl, sym, ◌∙◌}
-use mathlib.Core.Option.{none}
+use Rattle.std.proofs.Common.{None}
 use lib.ListN.{take, drop}
 use Rattle.ax25_aprs.specs.Text.{altitude, altitude_bits}
 use Rattle.laws.proofs.WroteLaws.{wrote_then}
@@ -14,7 +14,7 @@ pub returns-in_default : goal.returns-in_default
 unfolding altitude_bits
 returns-in_default c =
     let s = c.args.s.now in
-    let no : altitude (take 4 (drop 5 s)) ≡ none = number_not (altitude (take 4 (drop 5 s))) (sym c.read.ensures ∙ c.in_default.is) in
+    let no : altitude (take 4 (drop 5 s)) ≡ None = number_not (altitude (take 4 (drop 5 s))) (sym c.read.ensures ∙ c.in_default.is) in
     rw no refl
 
 pub push_bfi-requires : goal.push_bfi-requires

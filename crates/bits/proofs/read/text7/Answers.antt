@@ -4,7 +4,7 @@ use borrow.Author.Rules.{rules}
 use native.Mathlib.Omega.{arith}
 use mathlib.Core.Path.{◌≡◌, ap}
 use mathlib.Core.Bool.{false}
-use mathlib.Core.Option.{some}
+use Rattle.std.proofs.Common.{Some}
 use Prim.Native.Nat.{◌-◌, ◌*◌}
 use lib.ListN.{length, get_or, drop}
 use Rattle.laws.specs.Bits.{odd, unpack}
@@ -44,7 +44,7 @@ returns c =
     let end = c.end_of-end in
     let wrote = c.sevens.ensures in
     let last : odd got.result ≡ get_or b (length b - 1) false = rw (got.ensures, length_unpack s) (odd_num (get_or b (length s * 8 - 1) false)) in
-    let e : text7_of b a.at ≡ some (numbers 7 n.result (drop a.at b)) =
+    let e : text7_of b a.at ≡ Some (numbers 7 n.result (drop a.at b)) =
     rw (n.ensures, end.ensures, last)
     (text7_some b a.at (omega (arith, length_unpack s, c.if-s-eq0.false))) in
     (rw e (ap Next wrote.next_is), rw e wrote.stored)
