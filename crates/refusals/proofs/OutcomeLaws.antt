@@ -3,6 +3,7 @@
 use mathlib.Core.Path.{◌≡◌, refl, sym, ap, ◌∙◌}
 use mathlib.Core.Bool.{Bool, true, false, false≢true}
 use mathlib.Core.List.{List}
+use Rattle.std.proofs.Common.{Result, Ok, Err}
 use Prim.Native.Nat.{ℕ, ◌≤◌, ◌<◌}
 use native.Mathlib.Nat.{zero-add}
 use native.Mathlib.Omega.{arith}
@@ -13,9 +14,8 @@ use Rattle.laws.specs.Pick.{pick}
 use Rattle.laws.specs.Wrote.{Wrote}
 use Rattle.laws.proofs.Cases.{pick_true, pick_false, by_test, by_le}
 use Rattle.laws.proofs.ListLaws.{take_sets}
-use Rattle.refusals.specs.declared.Answer.{Answer}
-use Rattle.refusals.specs.declared.Answer.TheVariants.{Refused, Bytes}
-use Rattle.refusals.specs.Outcome.{Outcome, refused, answer, accepted, outcome_of, Left, left, into}
+use Rattle.refusals.specs.declared.Refusal.{Refusal}
+use Rattle.refusals.specs.Outcome.{Outcome, refused, answer, accepted, number, outcome_of, Left, left, into}
 
 -- an answer is no refusal
 pub answer_not : {A : Type 0} {x : A} {n : ℕ} → ◌≡◌ {A = Outcome A} (answer x) (refused n) → ⊥
@@ -96,9 +96,17 @@ module _ (out t : List ℕ) where
   refused_by (refused m) n e few = sym (ap refused (same_refusal (ap (λ x. x.outcome) (e ∙ into_refused m out))))
   refused_by (answer v) n e few = absurd (answer_not (sym (ap (λ x. x.outcome) (e ∙ into_fits v out (few v refl)))))
 
-  pub told_bytes : (o : Outcome (List ℕ)) (r : Answer) (n : ℕ) → r ≡ Bytes n → left (outcome_of r) t ≡ into o out → Handed o t n
-  told_bytes o r n told e = handed_by o n (ap (λ (x : Answer). left (outcome_of x) t) (sym told) ∙ e)
+  pub told_bytes : (o : Outcome (List ℕ)) (r : Result ℕ Refusal) (n : ℕ) → r ≡ Ok n → left (outcome_of r) t ≡ into o out → Handed o t n
+  told_bytes o r n told e = handed_by o n (ap (λ (x : Result ℕ Refusal). left (outcome_of x) t) (sym told) ∙ e)
 
-  pub told_refusal : (o : Outcome (List ℕ)) (r : Answer) (n : ℕ) → r ≡ Refused n → left (outcome_of r) t ≡ into o out
-      → ((v : List ℕ) → o ≡ answer v → length v ≤ length out) → o ≡ refused n
-  told_refusal o r n told e few = refused_by o n (ap (λ (x : Answer). left (outcome_of x) t) (sym told) ∙ e) few
+  pub told_refusal : (o : Outcome (List ℕ)) (r : Result ℕ Refusal) (x : Refusal) → r ≡ Err x → left (outcome_of r) t ≡ into o out
+      → ((v : List ℕ) → o ≡ answer v → length v ≤ length out) → o ≡ refused (number x)
+  told_refusal o r x told e few = refused_by o (number x) (ap (λ (y : Result ℕ Refusal). left (outcome_of y) t) (sym told) ∙ e) few
+
+-- an outcome that was answered or refused
+module _ {A : Type 0} {r : Result A Refusal} where
+  pub outcome_ok : {o : Outcome A} {a : A} → outcome_of r ≡ o → r ≡ Ok a → o ≡ answer a
+  outcome_ok e h = sym e ∙ ap outcome_of h
+
+  pub outcome_err : {o : Outcome A} {x : Refusal} → outcome_of r ≡ o → r ≡ Err x → o ≡ refused (number x)
+  outcome_err e h = sym e ∙ ap outcome_of h
