@@ -11,7 +11,7 @@ use lib.ListN.{length, take, drop, get_or, set, replicate, length-map, drop_of_l
 use lib.Seq.{get_or_at, set_at, get_or-take, get_or-append-add}
 use lib.Dec.{eqb}
 use Rattle.laws.specs.Pick.{pick}
-use Rattle.laws.specs.Text.{ascii, between, upper, same}
+use Rattle.laws.specs.Text.{between, upper, same}
 use Rattle.laws.specs.Wrote.{Wrote}
 use Rattle.laws.proofs.ListLaws.{from_place}
 use Rattle.laws.proofs.WroteLaws.{wrote_then, wrote_as}

@@ -56,7 +56,10 @@ fn marks_at(d: &[u8], k: usize) -> bool
     requires { k + 18 ≤ length d.now }
     ensures { result ≡ marks_at k d.now }
 {
-    d[k + 4] == b'.' && one_of(d[k + 7], b'N', b'S') && d[k + 14] == b'.' && one_of(d[k + 17], b'W', b'E')
+    d[k + 4] == b'.'
+        && one_of(d[k + 7], b'N', b'S')
+        && d[k + 14] == b'.'
+        && one_of(d[k + 17], b'W', b'E')
 }
 
 // '!' or '=', a digit, and the marks.
