@@ -36,7 +36,7 @@ module _ (l : ℕ) (b : List ℕ) (i : ℕ) (h : i < l) where
   letter_is =
       get_or-map double (cut_to l (map upper b)) i 0 ∙ ap double (get_or-take l (map upper b ++ replicate l 32) i 0 h)
 
-  -- a letter that is there, and a blank behind the last
+  -- a letter that is there, and a blank after the last
   pub letter_there : (x : ℕ) → x ≡ upper (get_or b i 0) → i < length b → x % 128 * 2 ≡ get_or (field_letters l b) i 0
   unfolding double upper pick between
   letter_there x e k =
