@@ -56,8 +56,8 @@ returns-then-control-gt3 c =
     let field_good : field_ok c.args.field ≡ true = sym c.field_ok.ensures ∙ c.if-not-field_ok.false in
     let some : 0 < length c.args.«data».now = not_empty c.is_empty.ensures c.if-is_empty.false in
     elim c.then-control-gt3.either [
-      | inl h ↦ refuses (build_reply _ _ _ _ field_good some c.if-field-data.false c.if-marker-eq-TERMINATOR.false h)
-      | inr h ↦ refuses (build_hint _ _ _ _ field_good some c.if-field-data.false c.if-marker-eq-TERMINATOR.false h.1)
+      | inl h ↦ refuses (build_reply _ _ _ _ field_good some c.if-field-data.false (omega arith) h)
+      | inr h ↦ refuses (build_hint _ _ _ _ field_good some c.if-field-data.false (omega arith) h.1)
     ]
 
 pub returns-then-out-field : goal.returns-then-out-field
@@ -65,7 +65,7 @@ returns-then-out-field c =
     let a = c.args in
     let field_good : field_ok c.args.field ≡ true = sym c.field_ok.ensures ∙ c.if-not-field_ok.false in
     let some : 0 < length c.args.«data».now = not_empty c.is_empty.ensures c.if-is_empty.false in
-    let built : build_of a.field a.«data».now a.control a.marker ≡ answer (frame_of a.field a.«data».now a.control a.marker) = build_answer _ _ _ _ field_good some c.if-field-data.false c.if-marker-eq-TERMINATOR.false c.if-control-gt3.false c.if-control-gt7.false in
+    let built : build_of a.field a.«data».now a.control a.marker ≡ answer (frame_of a.field a.«data».now a.control a.marker) = build_answer _ _ _ _ field_good some c.if-field-data.false (omega arith) (omega arith) (omega arith) in
     rw built (sym (into_short _ _ (omega (arith, frame_length a.field a.«data».now a.control a.marker c.if-field-data.false))))
 
 pub returns : goal.returns
