@@ -16,5 +16,5 @@ push_bfi-requires c =
 pub returns : goal.returns
 unfolding lon_bits
 returns c =
-    rw (← c.lon.ensures, ← c.wide.ensures)
+    rw (← c.lon.ensures, ← c.from.ensures)
     (wrote_then c.push_bfi-p.ensures.wrote (wrote_then c.put_side-q.ensures c.push_bfi.ensures.wrote))

@@ -14,8 +14,5 @@ use Rattle.ax25_aprs.proofs.number.put_digits.Given as goal
 
 abbrev pub invariant-loop-left : goal.invariant-loop-left
 invariant-loop-left l =
-    (l.left ≤ l.n) × (length l.out ≡ length l.initial.out) × (l.next ≡ l.at + (l.n - l.left))
+    (length l.out ≡ length l.initial.out) × (l.next ≡ l.at + (l.n - l.left))
     × ((e : List ℕ) (r : ℕ) → Wrote l.out l.next (digits l.left l.v) e r → Wrote l.initial.out l.at (digits l.n l.v) e r)
-
-abbrev pub decreases-loop-left : goal.decreases-loop-left
-decreases-loop-left l = l.left

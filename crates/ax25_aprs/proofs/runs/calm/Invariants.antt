@@ -14,7 +14,4 @@ use Rattle.ax25_aprs.proofs.RunLaws.{run_calm}
 use Rattle.ax25_aprs.proofs.runs.calm.Given as goal
 
 abbrev pub invariant-loop-k : goal.invariant-loop-k
-invariant-loop-k l = (l.k ≤ 16) × (l.stop ≡ false → plain_len (drop l.i l.s) ≡ l.k + plain_len (drop (l.i + l.k) l.s))
-
-abbrev pub decreases-loop-k : goal.decreases-loop-k
-decreases-loop-k l = 16 - l.k
+invariant-loop-k l = l.stop ≡ false → plain_len (drop l.i l.s) ≡ l.k + plain_len (drop (l.i + l.k) l.s)

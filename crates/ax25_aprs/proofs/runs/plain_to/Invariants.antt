@@ -10,7 +10,4 @@ use Rattle.ax25_aprs.proofs.RunLaws.{run_high, run_word, run_next}
 use Rattle.ax25_aprs.proofs.runs.plain_to.Given as goal
 
 abbrev pub invariant-loop-i : goal.invariant-loop-i
-invariant-loop-i l = (l.from ≤ l.i) × (l.i ≤ l.end) × (l.i + plain_len (drop l.i l.s) ≡ l.from + plain_len (drop l.from l.s))
-
-abbrev pub decreases-loop-i : goal.decreases-loop-i
-decreases-loop-i l = l.end - l.i
+invariant-loop-i l = l.i + plain_len (drop l.i l.s) ≡ l.from + plain_len (drop l.from l.s)

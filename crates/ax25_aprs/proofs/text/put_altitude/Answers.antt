@@ -21,6 +21,6 @@ pub returns : goal.returns
 returns c =
     let a = c.args in
     let b = drop a.at (unpack a.s.now) in
-    let n = c.least-n in
+    let n = c.min-n in
     let e : n.result ≡ min 14 (length b) = omega (arith, n.ensures, c.remaining_at.ensures, bits_left a.s.now a.at) in
     rw (c.if-not-position.false, altitude_number b, ← take_min 14 b, ← e, ← c.value.ensures) c.put_padded.ensures

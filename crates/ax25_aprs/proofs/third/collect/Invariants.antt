@@ -8,7 +8,4 @@ use Rattle.ax25_aprs.proofs.FieldLaws.{Free, free_none, free_more, span_ended, s
 use Rattle.ax25_aprs.proofs.third.collect.Given as goal
 
 abbrev pub invariant-loop-j : goal.invariant-loop-j
-invariant-loop-j l = (l.j ≤ l.k) × (l.j ≤ length l.d) × Free l.stop l.j l.d
-
-abbrev pub decreases-loop-j : goal.decreases-loop-j
-decreases-loop-j l = length l.d - l.j
+invariant-loop-j l = (l.j ≤ length l.d) × Free l.stop l.j l.d
