@@ -10,7 +10,7 @@ use lib.ListN.{length, length-append}
 use Rattle.laws.specs.Pick.{◌>>=◌}
 use Rattle.laws.specs.Wrote.{Wrote}
 use Rattle.laws.proofs.WroteLaws.{wrote_then}
-use Rattle.refusals.specs.Outcome.{Outcome, refused, answer, number, outcome_of}
+use Rattle.refusals.specs.Outcome.{Outcome, refused, answer, number}
 use Rattle.refusals.specs.declared.Refusal.{Refusal}
 use Rattle.refusals.proofs.OutcomeLaws.{answer_not, same_refusal}
 use Rattle.ax25_aprs.specs.Coded.{◌then◌, or_refused}

@@ -9,16 +9,14 @@ use native.Mathlib.Omega.{arith}
 use lib.ListN.{length, get_or, take, drop, length-append, length-drop}
 use lib.Seq.{drop-drop, get_or-drop}
 use lib.Dec.{eqb}
-use borrow.Author.Tests.{eq-eqb}
 use Rattle.laws.specs.Bits.{value_of}
 use Rattle.laws.specs.Pick.{pick}
 use Rattle.laws.proofs.BitLaws.{value_take_lt}
-use Rattle.laws.proofs.Cases.{by_test}
 use Rattle.ax25_aprs.specs.LatLon.{tables, dotted, field_of, side, table_end, table_text, lat_text, lon_text, read_latlon}
 use Rattle.ax25_aprs.specs.Place.{Has, table_of, half_text, place_text}
 use Rattle.ax25_aprs.specs.Text.{padded, read_text}
 use Rattle.ax25_aprs.specs.declared.place.Place.{Place}
-use Rattle.ax25_aprs.proofs.PlaceLaws.{dotted_size, field_at, end_around, latlon_some}
+use Rattle.ax25_aprs.proofs.PlaceLaws.{dotted_size, field_at, latlon_some}
 use Rattle.bits.specs.Read.{took, after_of}
 use Rattle.bits.proofs.TakenLaws.{next_at}
 use Rattle.ax25_aprs.proofs.ValueLaws.{Got, told_is, told_few, bit_told}

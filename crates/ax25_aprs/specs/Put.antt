@@ -1,7 +1,7 @@
 -- What coders and readers of parts answer and leave.
 -- Assumes nothing.
 use Rattle.std.specs.Prelude.{◌≡◌, Bool, List, ℕ, zero, suc, ◌+◌, ◌≤◌, length, take, drop}
-use Rattle.std.specs.Prelude.{Option, None, Some, Result, Ok, Err}
+use Rattle.std.specs.Prelude.{Option, None, Some, Result, Ok}
 use Rattle.laws.specs.Wrote.{Wrote}
 use Rattle.refusals.specs.Outcome.{Outcome, refused, answer, outcome_of}
 use Rattle.refusals.specs.declared.Refusal.{Refusal}

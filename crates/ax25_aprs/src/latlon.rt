@@ -1,4 +1,4 @@
-// Positions behind their type byte: `latlon_encode` and `latlon_decode` of the source.
+// Positions after their type byte: `latlon_encode` and `latlon_decode` of the source.
 ghost use Rattle.std.specs.Prelude.{◌≡◌, true, ◌∷◌, ◌++◌, ◌+◌, ◌/◌, ◌^◌, ◌≤◌, ◌<◌, length, get_or, take, drop, MatchOption};
 ghost use Rattle.laws.specs.Bits.{unpack};
 ghost use Rattle.laws.specs.Digits.{digits};
@@ -125,7 +125,7 @@ fn put_around(out: &mut [u8], to: usize, k: usize, m: usize, v: u64) -> usize
     number::put_digits(out, q, m, v)
 }
 
-// v in n digits, or in one more, with a dot behind the first k. The next place.
+// v in n digits, or in one more, with a dot after the first k. The next place.
 fn put_dotted(out: &mut [u8], to: usize, k: usize, n: usize, v: u64) -> usize
     requires { (k ≤ n) × (n < 8) × (0 < k) × (to < 2 ^ 60) }
     ensures { Wrote out.old to (dotted k (padded n v)) out.new result }

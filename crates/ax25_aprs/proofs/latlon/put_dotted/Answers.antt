@@ -1,7 +1,6 @@
 -- `ax25_aprs::latlon::put_dotted` meets its contract.
 -- Assumes nothing.
 use native.Mathlib.Omega.{arith}
-use borrow.Author.Rules.{rules}
 use Prim.Native.Nat.{◌^◌, ◌≤◌, ◌<◌}
 use Rattle.ax25_aprs.proofs.PlaceLaws.{dotted_few, dotted_more}
 use Rattle.ax25_aprs.proofs.latlon.put_dotted.Goals as goal

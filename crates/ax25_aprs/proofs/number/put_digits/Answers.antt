@@ -3,17 +3,10 @@
 use native.Mathlib.Omega.{arith}
 use borrow.Author.Rules.{rules}
 use mathlib.Core.Path.{◌≡◌}
-use mathlib.Core.List.{List}
-use Prim.Native.Nat.{ℕ, ◌+◌, ◌-◌, ◌≤◌}
-use lib.ListN.{length}
 use Rattle.laws.specs.Digits.{digits}
 use Rattle.ax25_aprs.proofs.TextLaws.{digits_first}
-use Rattle.laws.specs.Wrote.{Wrote}
 use Rattle.laws.proofs.WroteLaws.{wrote_none, wrote_then}
 use Rattle.ax25_aprs.proofs.number.put_digits.Goals as goal
-
-pub loop-left-init : goal.loop-left-init
-loop-left-init c = (search rules, omega arith, λ e r h. h)
 
 pub loop-left-preserved : goal.loop-left-preserved
 loop-left-preserved c =

@@ -1,12 +1,9 @@
 -- `ax25_aprs::runs::plain_to` meets its contract. From the first place to i all is plain.
 -- Assumes nothing.
-use borrow.Author.Rules.{rules}
-use native.Mathlib.Omega.{arith}
-use mathlib.Core.Path.{◌≡◌, sym, ◌∙◌}
-use Prim.Native.Nat.{◌+◌, ◌-◌, ◌≤◌}
+use mathlib.Core.Path.{◌≡◌}
+use Prim.Native.Nat.{◌+◌}
 use lib.ListN.{drop}
 use Rattle.ax25_aprs.specs.Runs.{plain_len}
-use Rattle.ax25_aprs.proofs.RunLaws.{run_high, run_word, run_next}
 use Rattle.ax25_aprs.proofs.runs.plain_to.Given as goal
 
 abbrev pub invariant-loop-i : goal.invariant-loop-i

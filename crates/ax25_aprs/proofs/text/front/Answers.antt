@@ -1,7 +1,7 @@
 -- `ax25_aprs::text::front` meets its contract: each way out is a case of what stands at the front.
 -- Assumes nothing.
 use native.Mathlib.Omega.{arith}
-use mathlib.Core.Path.{◌≡◌, sym, ap, ◌∙◌}
+use mathlib.Core.Path.{◌≡◌, sym, ◌∙◌}
 use mathlib.Core.Bool.{true, false}
 use lib.ListN.{length}
 use Rattle.ax25_aprs.specs.Text.{altitude_at}

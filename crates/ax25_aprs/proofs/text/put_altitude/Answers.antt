@@ -1,11 +1,9 @@
 -- `ax25_aprs::text::put_altitude` meets its contract.
 -- Assumes nothing.
 use native.Mathlib.Omega.{arith}
-use borrow.Author.Rules.{rules}
 use mathlib.Core.Path.{◌≡◌}
 use Prim.Native.Nat.{min}
 use lib.ListN.{length, drop}
-use borrow.Author.Tests.{not-true, not-false}
 use Rattle.laws.specs.Bits.{unpack}
 use Rattle.ax25_aprs.proofs.TextLaws.{altitude_number, altitude_no}
 use Rattle.laws.proofs.WroteLaws.{wrote_none}

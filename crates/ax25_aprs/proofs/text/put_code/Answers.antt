@@ -1,7 +1,6 @@
 -- `ax25_aprs::text::put_code` meets its contract: each arm is a range of codes.
 -- Assumes nothing.
 use native.Mathlib.Omega.{arith}
-use borrow.Author.Rules.{rules}
 use lib.ListN.{drop}
 use Rattle.laws.specs.Bits.{unpack}
 use Rattle.ax25_aprs.proofs.WordLaws.{word_size}

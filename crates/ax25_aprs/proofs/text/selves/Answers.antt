@@ -1,19 +1,14 @@
 -- `ax25_aprs::text::selves` meets its contract. The first n codes stand for themselves.
 -- Assumes nothing.
 use borrow.Author.Rules.{rules}
-use borrow.Author.Tests.{not-false}
-use native.Mathlib.Omega.{arith}
 use mathlib.Core.Path.{◌≡◌, sym}
-use Prim.Native.Nat.{◌+◌, ◌-◌, ◌*◌, ◌/◌, ◌≤◌}
-use lib.ListN.{length, take, drop}
+use Prim.Native.Nat.{◌+◌, ◌*◌}
+use lib.ListN.{drop}
 use lib.Seq.{drop-drop}
 use Rattle.laws.specs.Bits.{unpack}
 use Rattle.ax25_aprs.specs.Selves.{Selves}
 use Rattle.ax25_aprs.proofs.SelfLaws.{selves_front, selves_add}
 use Rattle.ax25_aprs.proofs.text.selves.Goals as goal
-
-pub loop-i-init : goal.loop-i-init
-loop-i-init c = (search rules, search rules, λ k h. absurd (omega arith))
 
 pub loop-i-preserved : goal.loop-i-preserved
 loop-i-preserved c =

@@ -1,17 +1,15 @@
--- `ax25_aprs::text::text_decode` meets its contract. What is left to write is the text behind the bits that were read.
+-- `ax25_aprs::text::text_decode` meets its contract. What is left to write is the text after the bits that were read.
 -- Assumes nothing.
 use native.Mathlib.Omega.{arith}
 use borrow.Author.Rules.{rules}
-use mathlib.Core.List.{List}
 use Prim.Native.Nat.{ℕ, ◌+◌, ◌-◌, ◌*◌, ◌≤◌, ◌<◌}
 use lib.ListN.{length, drop}
 use lib.Seq.{drop-drop}
 use Rattle.laws.specs.Bits.{unpack}
 use Rattle.laws.proofs.BitLaws.{value_take_lt}
-use Rattle.ax25_aprs.specs.Text.{code_text, code_span, read_text}
+use Rattle.ax25_aprs.specs.Text.{code_text, code_span}
 use Rattle.ax25_aprs.proofs.SelfLaws.{wrote_selves}
 use Rattle.ax25_aprs.proofs.TextLaws.{read_short, read_step, span_le, code_length}
-use Rattle.laws.specs.Wrote.{Wrote}
 use Rattle.laws.proofs.WroteLaws.{wrote_none, wrote_then}
 use mathlib.Core.Path.{◌≡◌, sym, ◌∙◌}
 use Rattle.ax25_aprs.proofs.ValueLaws.{bits_left, told_is, told_few}
@@ -21,9 +19,6 @@ use Rattle.ax25_aprs.proofs.text.text_decode.Goals as goal
 room_on : (all i next n k m : ℕ) {most : ℕ} → next + (all + 14 - i) * 2 ≤ most → n * 7 ≤ all - i → 7 ≤ all - (i + n * 7) → k ≤ 14 → 7 * m ≤ 56 + k
     → next + n + m + (all + 14 - (i + n * 7 + 7 + k)) * 2 ≤ most
 room_on all i next n k m h r l s c = omega arith
-
-pub loop-out-init : goal.loop-out-init
-loop-out-init c = (search rules, omega arith, λ e r h. h)
 
 pub returns-in_default : goal.returns-in_default
 returns-in_default c =

@@ -1,18 +1,13 @@
--- `ax25_aprs::text::text_encode` meets its contract. What is left to code is the text behind its first i bytes.
+-- `ax25_aprs::text::text_encode` meets its contract. What is left to code is the text after its first i bytes.
 -- Assumes nothing.
 use native.Mathlib.Omega.{arith}
 use borrow.Author.Rules.{rules}
 use mathlib.Core.Path.{◌≡◌}
-use mathlib.Core.Bool.{Bool}
-use mathlib.Core.List.{List}
-use Prim.Native.Nat.{ℕ, ◌+◌, ◌-◌, ◌*◌, ◌≤◌}
+use Prim.Native.Nat.{ℕ}
 use lib.ListN.{length, drop, length-drop}
 use Rattle.laws.specs.Bits.{unpack}
 use Rattle.laws.proofs.ListLaws.{from_place}
-use Rattle.ax25_aprs.specs.Coded.{or_refused}
-use Rattle.ax25_aprs.specs.Text.{text_bits}
-use Rattle.ax25_aprs.specs.Put.{Does}
-use Rattle.ax25_aprs.proofs.Steps.{Turn, turn, stop, all_done}
+use Rattle.ax25_aprs.proofs.Steps.{turn, stop, all_done}
 use mathlib.Core.Path.{◌≡◌, sym, ap, ◌∙◌}
 use Rattle.std.proofs.Common.{None, Result, Err}
 use Rattle.std.specs.Result.{result_ok}
@@ -20,12 +15,6 @@ use Rattle.std.proofs.lemmas.Result.{err_from_is_err_and}
 use Rattle.refusals.specs.declared.Refusal.{Refusal}
 use Rattle.refusals.specs.declared.Refusal.TheVariants as refusal
 use Rattle.ax25_aprs.proofs.text.text_encode.Goals as goal
-
-pub part-requires : goal.part-requires
-part-requires c =
-    let s = c.args.s.now in
-    let i = c.loop-i.i in
-    rw (from_place s i) (omega (arith, length-drop i s), omega (arith, length-drop i s))
 
 pub returns-in_err-size : goal.returns-in_err-size
 returns-in_err-size c =

@@ -1,18 +1,14 @@
--- `ax25_aprs::text::text_encode` meets its contract. What is left to code is the text behind its first i bytes.
+-- `ax25_aprs::text::text_encode` meets its contract. What is left to code is the text after its first i bytes.
 -- Assumes nothing.
-use native.Mathlib.Omega.{arith}
-use borrow.Author.Rules.{rules}
 use mathlib.Core.Path.{◌≡◌}
 use mathlib.Core.Bool.{Bool}
 use mathlib.Core.List.{List}
 use Prim.Native.Nat.{ℕ, ◌+◌, ◌-◌, ◌*◌, ◌≤◌}
-use lib.ListN.{length, drop, length-drop}
+use lib.ListN.{length, drop}
 use Rattle.laws.specs.Bits.{unpack}
-use Rattle.laws.proofs.ListLaws.{from_place}
 use Rattle.ax25_aprs.specs.Coded.{or_refused}
 use Rattle.ax25_aprs.specs.Text.{text_bits}
 use Rattle.ax25_aprs.specs.Put.{Does}
-use Rattle.ax25_aprs.proofs.Steps.{Turn, turn, stop, all_done}
 use Rattle.std.proofs.Common.{Result}
 use Rattle.refusals.specs.declared.Refusal.{Refusal}
 use Rattle.ax25_aprs.proofs.text.text_encode.Given as goal

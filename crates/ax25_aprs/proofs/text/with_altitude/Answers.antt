@@ -1,8 +1,6 @@
 -- `ax25_aprs::text::with_altitude` meets its contract.
 -- Assumes nothing.
-use native.Mathlib.Omega.{arith}
-use borrow.Author.Rules.{rules}
-use mathlib.Core.Path.{◌≡◌, refl, sym, ◌∙◌}
+use mathlib.Core.Path.{◌≡◌, sym, ◌∙◌}
 use Rattle.std.proofs.Common.{None, Some}
 use lib.ListN.{take, drop}
 use Rattle.ax25_aprs.specs.Text.{altitude, altitude_bits}

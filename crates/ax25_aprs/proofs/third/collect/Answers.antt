@@ -2,21 +2,13 @@
 -- Assumes nothing.
 use native.Mathlib.Omega.{arith}
 use mathlib.Core.Path.{◌≡◌, sym}
-use Prim.Native.Nat.{◌-◌, ◌≤◌}
-use lib.ListN.{length}
-use Rattle.ax25_aprs.proofs.FieldLaws.{Free, free_none, free_more, span_ended, span_full, collect_short}
+use Rattle.ax25_aprs.proofs.FieldLaws.{span_ended, span_full, collect_short}
 use Rattle.ax25_aprs.proofs.third.collect.Goals as goal
 
 pub returns-then-d-j-clause-result_value : goal.returns-then-d-j-clause-result_value
 returns-then-d-j-clause-result_value c =
     let a = c.args in
     sym (collect_short a.stop a.k a.d.now (omega arith) (λ i h. c.loop-j.invariant.1 i (omega arith)))
-
-pub loop-j-init : goal.loop-j-init
-loop-j-init c = (omega arith, free_none c.args.stop c.args.d.now)
-
-pub loop-j-preserved : goal.loop-j-preserved
-loop-j-preserved c = (omega arith, free_more c.args.stop c.loop-j.j c.args.d.now c.loop-j.invariant.1 c.if-d-j-2.false)
 
 pub returns-clause-result_value : goal.returns-clause-result_value
 returns-clause-result_value c =

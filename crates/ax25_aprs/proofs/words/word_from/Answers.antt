@@ -1,11 +1,7 @@
 -- `ax25_aprs::words::word_from` meets its contract: a word has the marks of its first two letters.
 -- Assumes nothing.
-use borrow.Author.Rules.{rules}
 use native.Mathlib.Omega.{arith}
-use mathlib.Core.Path.{sym, ap, ◌∙◌}
 use lib.ListN.{drop, length-drop}
-use Rattle.laws.proofs.ListLaws.{from_place}
-use Rattle.ax25_aprs.specs.Words.{word_at}
 use Rattle.ax25_aprs.specs.Openings.{first_marks, second_marks, both_marked}
 use Rattle.ax25_aprs.proofs.WordLaws.{unmarked, none_short}
 use Rattle.ax25_aprs.proofs.words.word_from.Goals as goal

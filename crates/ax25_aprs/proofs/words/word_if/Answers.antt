@@ -1,12 +1,11 @@
 -- `ax25_aprs::words::word_if` meets its contract.
 -- Assumes nothing.
-use mathlib.Core.Path.{◌≡◌, sym, ap, ◌∙◌}
+use mathlib.Core.Path.{sym, ap, ◌∙◌}
 use mathlib.Core.List.{List}
 use Prim.Native.Nat.{ℕ}
 use Rattle.laws.specs.Text.{starts}
 use Rattle.laws.proofs.Cases.{pick_true, pick_false}
 use Rattle.ax25_address.proofs.SliceLaws.{starts_is}
-use Rattle.ax25_aprs.specs.Words.{word}
 use Rattle.ax25_aprs.proofs.words.word_if.Goals as goal
 
 pub returns-then-starts_with : goal.returns-then-starts_with
