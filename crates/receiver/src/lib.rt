@@ -162,12 +162,13 @@ impl Joiner {
         if Reassembler::RX_MAX_FRAGMENTS <= self.nfrag
             || Reassembler::RX_BUFFER - base < tail.len()
         {
+            let state = Joiner {
+                overflow: 0x80 <= first,
+                ..self.reset()
+            };
             return Joined {
                 answer: Push::Dropped(Cause::Limit),
-                state: Joiner {
-                    overflow: 0x80 <= first,
-                    ..self.reset()
-                },
+                state,
             };
         }
         head(store, self.held, first);
