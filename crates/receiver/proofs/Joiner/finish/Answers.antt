@@ -1,9 +1,6 @@
 -- `Joiner::finish` meets its contract: each way out is a case of the definition.
 -- Assumes nothing.
 use mathlib.Core.Path.{sym, ◌∙◌}
-use native.Mathlib.Omega.{arith}
-use lib.ListN.{length-set}
-use lib.Seq.{length-take-le}
 use Rattle.receiver.proofs.JoinLaws.{finish_one, finish_good, finish_bad}
 use Rattle.receiver.proofs.Joiner.finish.Goals as goal
 use Rattle.receiver.proofs.Joiner.finish.Goals.{then-self-lt2-via-then-self-lt2, then-self-lt2-via-else-self-lt2+then-crc_bits-self}

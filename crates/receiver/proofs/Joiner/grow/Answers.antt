@@ -8,8 +8,8 @@ use lib.ListN.{length}
 use lib.Seq.{sets}
 use borrow.Rule.Slice.PartMut.{put_mid}
 use Rattle.frame.proofs.PartLaws.{put_sets}
-use Rattle.receiver.specs.Join.{base_of, headed}
-use Rattle.receiver.proofs.JoinLaws.{grow_many, grow_long, grow_more, grow_last, base_le, base_pos, base_max, length_headed}
+use Rattle.receiver.specs.Join.{base_of}
+use Rattle.receiver.proofs.JoinLaws.{grow_many, grow_long, grow_more, grow_last, base_max}
 use Rattle.receiver.proofs.Joiner.grow.Goals as goal
 use Rattle.receiver.proofs.Joiner.grow.Goals.{then-self-ge-RX_MAX_FRAGMENTS-via-then-self-ge-RX_MAX_FRAGMENTS, then-self-ge-RX_MAX_FRAGMENTS-via-else-self-ge-RX_MAX_FRAGMENTS+then-base-tail}
 

@@ -13,12 +13,6 @@ pub returns-then-full : goal.returns-then-full
 returns-then-full c =
     c.refused-then-full.ensures _ ∙ sym (join_full _ _ _ _ (code_none c.refusal.ensures c.in_default.is) (sym c.full.ensures ∙ c.if-full.true))
 
-pub joined-requires : goal.joined-requires
-joined-requires c = code_none c.refusal.ensures c.in_default.is
-
-pub counted-requires : goal.counted-requires
-counted-requires c = sym c.full.ensures ∙ c.if-full.false
-
 pub returns : goal.returns
 returns c =
     c.counted.ensures _

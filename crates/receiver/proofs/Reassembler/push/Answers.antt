@@ -19,12 +19,6 @@ returns-then-full c =
     c.refused-then-full.ensures _
     ∙ sym (push_full _ _ _ _ (code_none c.refusal.ensures c.in_default.is) (sym c.field_ok.ensures ∙ c.if-not-field_ok.false) (sym c.full.ensures ∙ c.if-full.true))
 
-pub pushed-requires : goal.pushed-requires
-pushed-requires c = (code_none c.refusal.ensures c.in_default.is, sym c.field_ok.ensures ∙ c.if-not-field_ok.false)
-
-pub counted-requires : goal.counted-requires
-counted-requires c = sym c.full.ensures ∙ c.if-full.false
-
 pub returns : goal.returns
 returns c =
     c.counted.ensures _
