@@ -9,7 +9,7 @@ use native.Mathlib.Numerals.{add-one}
 use native.Mathlib.Omega.{arith}
 use lib.Arith.{bin_ind}
 use lib.Bits.{bit_xor, xor_comm, xor_self, xor_lt, xor_zero_l, xor_zero_r, xor_shifted}
-use lib.ListN.{length, get_or, take, drop, set, replicate, get_or-replicate, length-append, length-take, length-drop, length-set, drop_of_length-le, get_or-append}
+use lib.ListN.{length, get_or, take, drop, take-append-drop, set, replicate, get_or-replicate, length-append, length-take, length-drop, length-set, drop_of_length-le, get_or-append}
 use lib.Seq.{take_all, take-append-le, take-suc, drop-cons, drop-set-lt, take-suc-set, get_or-take, get_or-drop, get_or-append-add, length-take-le}
 use Rattle.laws.specs.Bits.{Bytes}
 use Rattle.laws.specs.Pick.{pick}
@@ -17,7 +17,7 @@ use Rattle.laws.proofs.ByteLaws.{bytes_set}
 use Rattle.laws.proofs.Cases.{by_le}
 use Rattle.crc.specs.Crc.{start, crc_bit, crc_steps, crc_byte, crc_from}
 use Rattle.crc.specs.Fold.{Window, held}
-use Rattle.crc.proofs.LinearLaws.{xor_assoc, xor_cross, xor_high, step_low, step_xor, steps_lt, steps_xor, steps_add, from_append, from_one, Through}
+use Rattle.crc.proofs.LinearLaws.{xor_assoc, xor_cross, xor_high, step_low, step_xor, steps_lt, steps_xor, steps_add, from_append, from_more, from_one, eights_of, eights_all}
 
 -- ---- 1024 steps
 
@@ -231,41 +231,44 @@ module _ (w : List ℕ) (j : ℕ) (full : length w ≡ 128) (inside : j < 128) (
       ∙ slid (get_or w j 0) behind lb (hw j (omega arith)) (bytes_append (drop (suc j) w) (take j w) (bytes_drop (suc j) w hw) (bytes_take j w hw)) d x hd e
       ∙ ap (λ (s : List ℕ). crc_byte (held (s ++ take j w)) d) (sym (drop-cons w j 0 (omega arith)))
 
--- the window whose oldest place is j stands for a start and j bytes from i on
-abbrev pub Stands : List ℕ → ℕ → ℕ → List ℕ → ℕ → Type 0
-Stands l i j w c = held (turned j w) ≡ crc_from c (take j (drop i l))
+-- the window whose oldest place is j stands for a start and the first j bytes
+abbrev pub Stands : List ℕ → ℕ → List ℕ → ℕ → Type 0
+Stands l j w c = held (turned j w) ≡ crc_from c (take j l)
 
 -- before the first byte
-pub stands_first : (l : List ℕ) (i : ℕ) (w : List ℕ) → Stands l i 0 w (held w)
+stands_first : (l : List ℕ) (w : List ℕ) → Stands l 0 w (held w)
 unfolding turned crc_from
-stands_first l i w = ap held (append-nil w)
+stands_first l w = ap held (append-nil w)
 
 -- after the last
-pub stands_last : (l : List ℕ) (i j : ℕ) (w : List ℕ) (c : ℕ) → length w ≡ 128 → j ≡ 128 → Stands l i j w c → held w ≡ crc_from c (take 128 (drop i l))
+stands_last : (l : List ℕ) (w : List ℕ) (c : ℕ) → length w ≡ 128 → length l ≡ 128 → Stands l 128 w c → held w ≡ crc_from c l
 unfolding turned
-stands_last l i j w c full e s =
+stands_last l w c full all s =
     let k : length w ≤ 128 = omega arith in
-    ap held (sym (ap₂ (λ (x y : List ℕ). x ++ y) (drop_of_length-le w k) (take_all 128 w k))) ∙ rw e at s
+    ap held (sym (ap₂ (λ (x y : List ℕ). x ++ y) (drop_of_length-le w k) (take_all 128 w k))) ∙ s ∙ ap (crc_from c) (take_all 128 l (omega arith))
 
--- it stands for j bytes if w₀ stood for j₀
-abbrev pub Ring : List ℕ → ℕ → List ℕ → ℕ → List ℕ → ℕ → Type 0
-Ring l i w₀ j₀ w j = Window w × ((c : ℕ) → Stands l i j₀ w₀ c → Stands l i j w c)
+-- it stands for what the window w₀ stood for and j bytes
+abbrev pub Ring : List ℕ → List ℕ → List ℕ → ℕ → Type 0
+Ring l w₀ w j = Window w × Stands l j w (held w₀)
 
-module _ (l : List ℕ) (i : ℕ) (w₀ : List ℕ) (j₀ : ℕ) (w : List ℕ) (j : ℕ) (ring : Ring l i w₀ j₀ w j) (inside : j < 128) where
+pub ring_first : (l w : List ℕ) → Window w → Ring l w w 0
+ring_first l w h = (h, stands_first l w)
+
+pub ring_last : (l w₀ w : List ℕ) → length l ≡ 128 → Ring l w₀ w 128 → (held w ≡ crc_from (held w₀) l) × Window w
+ring_last l w₀ w all r = (stands_last l w (held w₀) r.0.0 all r.1, r.0)
+
+module _ (l : List ℕ) (w₀ : List ℕ) (w : List ℕ) (j : ℕ) (ring : Ring l w₀ w j) (inside : j < 128) where
   -- a byte of the list more
-  pub ring_on : (k n : ℕ) → k ≡ (j + 40) % 128 → n ≡ (j + 96) % 128 → i + 128 ≤ length l → get_or l (i + j) 0 < 256
-      → Ring l i w₀ j₀ (set w j (bit_xor (bit_xor (bit_xor (get_or l (i + j) 0) (get_or w j 0)) (get_or w k 0)) (get_or w n 0))) (j + 1)
+  pub ring_on : (k n : ℕ) → k ≡ (j + 40) % 128 → n ≡ (j + 96) % 128 → length l ≡ 128 → get_or l j 0 < 256
+      → Ring l w₀ (set w j (bit_xor (bit_xor (bit_xor (get_or l j 0) (get_or w j 0)) (get_or w k 0)) (get_or w n 0))) (j + 1)
   ring_on k n ek en room hd =
       let full = ring.0.0 in
       let h = ring.0.1 in
-      let d = get_or l (i + j) 0 in
+      let d = get_or l j 0 in
       let x = bit_xor (bit_xor d (get_or w j 0)) (get_or w k 0) in
       let lx : x < 256 = xor_lt 8 (bit_xor d (get_or w j 0)) (get_or w k 0) (xor_lt 8 d (get_or w j 0) hd (h j (omega arith))) (h k (omega arith)) in (
         (length-set w j (bit_xor x (get_or w n 0)) ∙ full, bytes_set w j (bit_xor x (get_or w n 0)) h (xor_lt 8 x (get_or w n 0) lx (h n (omega arith)))),
-        λ c e.
-            more w j full inside h d k n hd ek en
-            ∙ ap₂ crc_byte (ring.1 c e) (sym (get_or-drop i l j 0))
-            ∙ sym (from_one c j (drop i l) (omega (arith, length-drop i l))),
+        more w j full inside h d k n hd ek en ∙ ap (λ (y : ℕ). crc_byte y d) ring.1 ∙ sym (from_one (held w₀) j l (omega arith)),
       )
 
 -- the window that stands for no bytes but the start
@@ -277,12 +280,19 @@ window_first = (
 )
 
 -- three numbers on one way through the window
-pub window_parts : (w : List ℕ) (a b d i j k : ℕ) → length w ≡ 128
-    → Through 0 w 40 i a → 40 ≤ i → Through 0 w 96 j b → 96 ≤ j → Through 0 w 128 k d → 128 ≤ k → bit_xor (bit_xor a b) d ≡ held w
+pub window_parts : (w : List ℕ) (a b d : ℕ) → length w ≡ 128 → a ≡ eights_of 0 (take 40 w) → b ≡ eights_of a (take 56 (drop 40 w)) → d ≡ eights_of b (drop 96 w) → bit_xor (bit_xor a b) d ≡ held w
 unfolding held
-window_parts w a b d i j k full ta hi tb hj td hk =
-    let ei : i ≡ 40 = omega arith in
-    let ej : j ≡ 96 = omega arith in
-    ap₂ bit_xor
-    (ap₂ bit_xor (ta.2 ∙ ap (λ (n : ℕ). crc_from 0 (take n w)) ei) (tb.2 ∙ ap (λ (n : ℕ). crc_from 0 (take n w)) ej))
-    (td.2 ∙ ap (crc_from 0) (take_all k w (omega arith)))
+window_parts w a b d full ea eb ed =
+    let p : a ≡ crc_from 0 (take 40 w) = ea ∙ eights_all 0 5 (take 40 w) (omega (arith, length-take 40 w)) in
+    let q : b ≡ crc_from 0 (take 96 w) =
+    eb
+    ∙ eights_all a 7 (take 56 (drop 40 w)) (omega (arith, length-take 56 (drop 40 w), length-drop 40 w))
+    ∙ ap (λ (x : ℕ). crc_from x (take 56 (drop 40 w))) p
+    ∙ sym (from_more 0 40 56 w) in
+    let r : d ≡ crc_from 0 w =
+    ed
+    ∙ eights_all b 4 (drop 96 w) (omega (arith, length-drop 96 w))
+    ∙ ap (λ (x : ℕ). crc_from x (drop 96 w)) q
+    ∙ sym (from_append 0 (take 96 w) (drop 96 w))
+    ∙ ap (crc_from 0) (take-append-drop 96 w) in
+    ap₂ bit_xor (ap₂ bit_xor p q) r
