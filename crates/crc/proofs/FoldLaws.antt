@@ -231,45 +231,49 @@ module _ (w : List ℕ) (j : ℕ) (full : length w ≡ 128) (inside : j < 128) (
       ∙ slid (get_or w j 0) behind lb (hw j (omega arith)) (bytes_append (drop (suc j) w) (take j w) (bytes_drop (suc j) w hw) (bytes_take j w hw)) d x hd e
       ∙ ap (λ (s : List ℕ). crc_byte (held (s ++ take j w)) d) (sym (drop-cons w j 0 (omega arith)))
 
--- the window whose oldest place is j stands for a start and the first j bytes
-abbrev pub Stands : List ℕ → ℕ → List ℕ → ℕ → Type 0
-Stands l j w c = held (turned j w) ≡ crc_from c (take j l)
+-- the window whose oldest place is j stands for a start and j bytes from i on
+abbrev pub Stands : List ℕ → ℕ → ℕ → List ℕ → ℕ → Type 0
+Stands l i j w c = held (turned j w) ≡ crc_from c (take j (drop i l))
 
 -- before the first byte
-stands_first : (l : List ℕ) (w : List ℕ) → Stands l 0 w (held w)
+pub stands_first : (l : List ℕ) (i : ℕ) (w : List ℕ) → Stands l i 0 w (held w)
 unfolding turned crc_from
-stands_first l w = ap held (append-nil w)
+stands_first l i w = ap held (append-nil w)
 
 -- after the last
-stands_last : (l : List ℕ) (w : List ℕ) (c : ℕ) → length w ≡ 128 → length l ≡ 128 → Stands l 128 w c → held w ≡ crc_from c l
+pub stands_last : (l : List ℕ) (i j : ℕ) (w : List ℕ) (c : ℕ) → length w ≡ 128 → j ≡ 128 → Stands l i j w c → held w ≡ crc_from c (take 128 (drop i l))
 unfolding turned
-stands_last l w c full all s =
+stands_last l i j w c full e s =
     let k : length w ≤ 128 = omega arith in
-    ap held (sym (ap₂ (λ (x y : List ℕ). x ++ y) (drop_of_length-le w k) (take_all 128 w k))) ∙ s ∙ ap (crc_from c) (take_all 128 l (omega arith))
+    ap held (sym (ap₂ (λ (x y : List ℕ). x ++ y) (drop_of_length-le w k) (take_all 128 w k))) ∙ rw e at s
 
--- it stands for what the window w₀ stood for and j bytes
-abbrev pub Ring : List ℕ → List ℕ → List ℕ → ℕ → Type 0
-Ring l w₀ w j = Window w × Stands l j w (held w₀)
+-- it stands for j bytes if w₀ stood for j₀
+abbrev pub Ring : List ℕ → ℕ → List ℕ → ℕ → List ℕ → ℕ → Type 0
+Ring l i w₀ j₀ w j = Window w × ((c : ℕ) → Stands l i j₀ w₀ c → Stands l i j w c)
 
-pub ring_first : (l w : List ℕ) → Window w → Ring l w w 0
-ring_first l w h = (h, stands_first l w)
-
-pub ring_last : (l w₀ w : List ℕ) → length l ≡ 128 → Ring l w₀ w 128 → (held w ≡ crc_from (held w₀) l) × Window w
-ring_last l w₀ w all r = (stands_last l w (held w₀) r.0.0 all r.1, r.0)
-
-module _ (l : List ℕ) (w₀ : List ℕ) (w : List ℕ) (j : ℕ) (ring : Ring l w₀ w j) (inside : j < 128) where
+module _ (l : List ℕ) (i : ℕ) (w₀ : List ℕ) (j₀ : ℕ) (w : List ℕ) (j : ℕ) (ring : Ring l i w₀ j₀ w j) (inside : j < 128) where
   -- a byte of the list more
-  pub ring_on : (k n : ℕ) → k ≡ (j + 40) % 128 → n ≡ (j + 96) % 128 → length l ≡ 128 → get_or l j 0 < 256
-      → Ring l w₀ (set w j (bit_xor (bit_xor (bit_xor (get_or l j 0) (get_or w j 0)) (get_or w k 0)) (get_or w n 0))) (j + 1)
+  pub ring_on : (k n : ℕ) → k ≡ (j + 40) % 128 → n ≡ (j + 96) % 128 → i + 128 ≤ length l → get_or l (i + j) 0 < 256
+      → Ring l i w₀ j₀ (set w j (bit_xor (bit_xor (bit_xor (get_or l (i + j) 0) (get_or w j 0)) (get_or w k 0)) (get_or w n 0))) (j + 1)
   ring_on k n ek en room hd =
       let full = ring.0.0 in
       let h = ring.0.1 in
-      let d = get_or l j 0 in
+      let d = get_or l (i + j) 0 in
       let x = bit_xor (bit_xor d (get_or w j 0)) (get_or w k 0) in
       let lx : x < 256 = xor_lt 8 (bit_xor d (get_or w j 0)) (get_or w k 0) (xor_lt 8 d (get_or w j 0) hd (h j (omega arith))) (h k (omega arith)) in (
         (length-set w j (bit_xor x (get_or w n 0)) ∙ full, bytes_set w j (bit_xor x (get_or w n 0)) h (xor_lt 8 x (get_or w n 0) lx (h n (omega arith)))),
-        more w j full inside h d k n hd ek en ∙ ap (λ (y : ℕ). crc_byte y d) ring.1 ∙ sym (from_one (held w₀) j l (omega arith)),
+        λ c e.
+            more w j full inside h d k n hd ek en
+            ∙ ap₂ crc_byte (ring.1 c e) (sym (get_or-drop i l j 0))
+            ∙ sym (from_one c j (drop i l) (omega (arith, length-drop i l))),
       )
+
+-- the same where the list is the 128 bytes alone
+pub ring_block : (l w₀ w : List ℕ) (j : ℕ) → Ring l 0 w₀ 0 w j → j < 128 → (k n : ℕ) → k ≡ (j + 40) % 128 → n ≡ (j + 96) % 128 → length l ≡ 128 → get_or l j 0 < 256
+    → Ring l 0 w₀ 0 (set w j (bit_xor (bit_xor (bit_xor (get_or l j 0) (get_or w j 0)) (get_or w k 0)) (get_or w n 0))) (j + 1)
+ring_block l w₀ w j ring inside k n ek en all hd =
+    let e : 0 + j ≡ j = omega arith in
+    rw e at (ring_on l 0 w₀ 0 w j ring inside k n ek en (omega arith) (rw e hd))
 
 -- the window that stands for no bytes but the start
 pub window_first : Window (set (set (replicate 128 0) 0 255) 1 255) × (held (set (set (replicate 128 0) 0 255) 1 255) ≡ start)

@@ -1,18 +1,22 @@
 -- `crc::fold` meets its contract.
 -- Assumes nothing.
-use mathlib.Core.Path.{◌≡◌}
+use mathlib.Core.Path.{◌≡◌, ap, ◌∙◌}
 use Prim.Native.Nat.{◌+◌, ◌-◌}
 use native.Mathlib.Omega.{arith}
-use Rattle.crc.proofs.FoldLaws.{ring_first, ring_on, ring_last}
+use lib.ListN.{take}
+use lib.Seq.{take_all}
+use Rattle.crc.specs.Crc.{crc_from}
+use Rattle.crc.specs.Fold.{held}
+use Rattle.crc.proofs.FoldLaws.{ring_block, stands_first, stands_last}
 use Rattle.crc.proofs.fold.Goals as goal
 
 pub loop-j-init : goal.loop-j-init
-loop-j-init c = ring_first c.args.block.now c.args.old c.requires.1
+loop-j-init c = (c.requires.1, λ x e. e)
 
 pub loop-j-preserved : goal.loop-j-preserved
 loop-j-preserved c =
     let j = c.loop-j.j in
-    ring_on c.args.block.now c.args.old c.loop-j.w j c.loop-j.invariant (omega arith) (j + 40) (j + 96) (omega arith) (omega arith) (omega arith) (omega (arith, c.type_inv.block j))
+    ring_block c.args.block.now c.args.old c.loop-j.w j c.loop-j.invariant (omega arith) (j + 40) (j + 96) (omega arith) (omega arith) (omega arith) (omega (arith, c.type_inv.block j))
 
 pub loop-j-2-init : goal.loop-j-2-init
 loop-j-2-init c =
@@ -22,7 +26,7 @@ loop-j-2-init c =
 pub loop-j-2-preserved : goal.loop-j-2-preserved
 loop-j-2-preserved c =
     let j = c.loop-j-2.j in
-    ring_on c.args.block.now c.args.old c.loop-j-2.w j c.loop-j-2.invariant (omega arith) (j + 40) (j - 32) (omega arith) (omega arith) (omega arith) (omega (arith, c.type_inv.block j))
+    ring_block c.args.block.now c.args.old c.loop-j-2.w j c.loop-j-2.invariant (omega arith) (j + 40) (j - 32) (omega arith) (omega arith) (omega arith) (omega (arith, c.type_inv.block j))
 
 pub loop-j-3-init : goal.loop-j-3-init
 loop-j-3-init c =
@@ -32,9 +36,13 @@ loop-j-3-init c =
 pub loop-j-3-preserved : goal.loop-j-3-preserved
 loop-j-3-preserved c =
     let j = c.loop-j-3.j in
-    ring_on c.args.block.now c.args.old c.loop-j-3.w j c.loop-j-3.invariant (omega arith) (j - 88) (j - 32) (omega arith) (omega arith) (omega arith) (omega (arith, c.type_inv.block j))
+    ring_block c.args.block.now c.args.old c.loop-j-3.w j c.loop-j-3.invariant (omega arith) (j - 88) (j - 32) (omega arith) (omega arith) (omega arith) (omega (arith, c.type_inv.block j))
 
 pub returns : goal.returns
 returns c =
-    let e : c.loop-j-3.j ≡ 128 = omega arith in
-    ring_last c.args.block.now c.args.old c.loop-j-3.w c.requires.0 (rw e at c.loop-j-3.invariant)
+    let w = c.loop-j-3.w in
+    let l = c.args.block.now in
+    let old = c.args.old in
+    let done = c.loop-j-3.invariant in
+    let all : take 128 l ≡ l = take_all 128 l (omega arith) in
+    (stands_last l 0 c.loop-j-3.j w (held old) done.0.0 (omega arith) (done.1 (held old) (stands_first l 0 old)) ∙ ap (crc_from (held old)) all, done.0)
