@@ -2,7 +2,6 @@
 #![tactic(auto)]
 
 ghost use Rattle.std.specs.Prelude.{◌≡◌, [], ◌∷◌, ◌+◌, ◌-◌, ◌/◌, ◌%◌, ◌≤◌, length, take};
-ghost use Rattle.laws.specs.Bits.{num};
 ghost use Rattle.laws.specs.Wrote.{Wrote};
 ghost use Rattle.crc.specs.Crc.{crc_of};
 ghost use Rattle.refusals.specs.Outcome.{left, into, outcome_of};
@@ -10,27 +9,17 @@ ghost use Rattle.frame.specs.Frame.{fill_of, body_of, control_byte, frame_of, bu
 
 use bits_write::{byte, copy};
 use crc::crc16_genibus;
-use refusals::{Answer, field_ok};
+use refusals::{Refusal, field_ok};
 
-// The byte behind a fragment that is shorter than its field.
+// The byte after a fragment that is shorter than its field.
 pub const TERMINATOR: u8 = 0x14;
 
 // What the control byte carries besides its bit 0.
-#[derive(Clone, Copy)]
+#[derive(Clone, Copy, Debug, PartialEq, Eq)]
 pub struct Control {
     pub reply: u8,
     pub compressed: bool,
     pub hint: u8,
-}
-
-// A bit as a byte.
-fn bit(b: bool) -> u8
-    ensures { result ≡ num b }
-{
-    if b {
-        return 1;
-    }
-    0
 }
 
 impl Control {
@@ -39,29 +28,25 @@ impl Control {
         requires { (self.reply ≤ 3) × (self.hint ≤ 7) }
         ensures { result ≡ control_byte self full }
     {
-        let compressed = bit(self.compressed);
-        self.reply * 64 + compressed * 32 + self.hint * 4 + bit(full)
+        self.reply * 64 + u8::from(self.compressed) * 32 + self.hint * 4 + u8::from(full)
     }
 }
 
 // The bytes from a place up to an end: the marker if it fits, then zeros. The next place.
 fn fill(out: &mut [u8], at: usize, end: usize, marker: u8) -> usize
-    requires { (at ≤ end) × (end ≤ 512) }
+    requires { (at ≤ end) × (end ≤ length out.old) }
     ensures { Wrote out.old at (fill_of (end - at) marker) out.new result }
 {
-    if at == end {
-        return at;
+    if at < end {
+        out[at] = marker;
+        out[at + 1..end].fill(0);
     }
-    let mut next = byte(out, at, marker);
-    while next < end {
-        next = byte(out, next, 0);
-    }
-    next
+    end
 }
 
 // The fragment, and where it is shorter than its field the terminator and what fills the field up. The next place.
 fn body(field: usize, data: &[u8], marker: u8, out: &mut [u8]) -> usize
-    requires { (length «data».now ≤ field) × (field ≤ 512) }
+    requires { (length «data».now ≤ field) × (field ≤ 512) × (field ≤ length out.old) }
     ensures { Wrote out.old 0 (body_of field «data».now marker) out.new result }
 {
     let end = copy(out, 0, data);
@@ -101,29 +86,23 @@ pub fn build_frame(
     control: Control,
     marker: u8,
     out: &mut [u8],
-) -> Answer
+) -> Result<usize, Refusal>
     ensures { left (outcome_of result) out.new ≡ into (build_of field «data».now control marker) out.old }
 {
     if !field_ok(field) {
-        return Answer::Refused(refusals::FIELD);
+        return Err(Refusal::Field);
     }
-    if data.len() == 0 {
-        return Answer::Refused(refusals::FRAGMENT);
-    }
-    if field < data.len() {
-        return Answer::Refused(refusals::FRAGMENT);
+    if data.is_empty() || field < data.len() {
+        return Err(Refusal::Fragment);
     }
     if marker == TERMINATOR {
-        return Answer::Refused(refusals::MARKER);
+        return Err(Refusal::Marker);
     }
-    if 3 < control.reply {
-        return Answer::Refused(refusals::CONTROL);
-    }
-    if 7 < control.hint {
-        return Answer::Refused(refusals::CONTROL);
+    if 3 < control.reply || 7 < control.hint {
+        return Err(Refusal::Control);
     }
     if out.len() < field + 3 {
-        return Answer::Refused(refusals::OUTPUT);
+        return Err(Refusal::Output);
     }
-    Answer::Bytes(frame(field, data, control, marker, out))
+    Ok(frame(field, data, control, marker, out))
 }

@@ -6,8 +6,6 @@ use Rattle.laws.specs.Pick.{pick}
 use Rattle.crc.specs.Crc.{crc_bits}
 use Rattle.refusals.specs.Limits.{field_ok, mask_ok}
 use Rattle.refusals.specs.Outcome.{Outcome, refused, answer}
-use Rattle.sender.specs.declared.Counted.{Counted}
-use Rattle.sender.specs.declared.Counted.TheVariants.{Refused, Count}
 
 -- ---- how many fragments
 
@@ -25,11 +23,6 @@ count_for total field =
     pick (not (field_ok field)) (refused 8)
     (pick (ltb 5000 total) (refused 2)
     (answer (count_of total field)))
-
--- document 01's number and value for each case of `Counted`
-abbrev pub counted_of : Counted → Outcome ℕ
-counted_of (Refused n) = refused n
-counted_of (Count n) = answer n
 
 -- ---- the fragments
 

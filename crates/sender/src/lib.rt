@@ -4,19 +4,12 @@
 ghost use Rattle.std.specs.Prelude.{true, ◌≡◌, ◌∷◌, ◌+◌, ◌-◌, ◌≤◌, ◌<◌, length, take, drop, get_or};
 ghost use Rattle.refusals.specs.Limits.{field_ok, mask_ok};
 ghost use Rattle.refusals.specs.Outcome.{left, into, outcome_of, answer};
-ghost use Rattle.sender.specs.Send.{ceiling, count_of, count_for, counted_of, check_of, lead_of, fragment_of, send_of};
+ghost use Rattle.sender.specs.Send.{ceiling, count_of, count_for, check_of, lead_of, fragment_of, send_of};
 
-use bits_write::{byte, copy, least};
-use refusals::Answer;
+use bits_write::{byte, copy};
+use refusals::Refusal;
 
-// How many fragments a message takes, or a refusal's number.
-#[derive(Clone, Copy)]
-pub enum Counted {
-    Refused(u8),
-    Count(usize),
-}
-
-// How many fragments a message takes that is longer than the field. Each has room for field - 1 bytes behind its first.
+// How many fragments a message takes that is longer than the field. Each has room for field - 1 bytes after its first.
 fn frags_needed(total: usize, field: usize) -> usize
     requires { (3 ≤ field) × ((field ≤ 512) × ((field < total) × (total ≤ 5000))) }
     ensures { result ≡ ceiling (total + 1 - field) (field - 1) + 1 }
@@ -31,22 +24,23 @@ fn count(total: usize, field: usize) -> usize
     ensures { result ≡ count_of total field }
 {
     if total <= field {
-        return 1;
+        1
+    } else {
+        frags_needed(total, field)
     }
-    frags_needed(total, field)
 }
 
 // How many fragments a message of so many bytes takes, or the refusal of its field or its length.
-pub fn count_for_field(total: usize, field: usize) -> Counted
-    ensures { counted_of result ≡ count_for total field }
+pub fn count_for_field(total: usize, field: usize) -> Result<usize, Refusal>
+    ensures { outcome_of result ≡ count_for total field }
 {
     if !refusals::field_ok(field) {
-        return Counted::Refused(refusals::FIELD);
+        return Err(Refusal::Field);
     }
     if refusals::MAX_MESSAGE < total {
-        return Counted::Refused(refusals::TOO_LONG);
+        return Err(Refusal::TooLong);
     }
-    Counted::Count(count(total, field))
+    Ok(count(total, field))
 }
 
 // The check byte of a message in several fragments: count - 2 below the mask, and the CRC's high byte under it.
@@ -63,43 +57,59 @@ fn lead_of(first: u8, k: usize, count: usize) -> u8
     requires { (first < 128) × (k < count) }
     ensures { result ≡ lead_of first k count }
 {
-    if k + 1 < count {
-        return first + 0x80;
-    }
-    first
+    if k + 1 < count { first + 0x80 } else { first }
 }
 
 // A later fragment: its first byte, and the message from a place on, as much as the field takes.
-fn next_of(message: &[u8], field: usize, start: usize, lead: u8, out: &mut [u8]) -> Answer
+fn next_of(
+    message: &[u8],
+    field: usize,
+    start: usize,
+    lead: u8,
+    out: &mut [u8],
+) -> Result<usize, Refusal>
     requires { (3 ≤ field) × ((field ≤ 512) × (start ≤ length message.now)) }
     ensures { left (outcome_of result) out.new ≡ into (answer (lead ∷ take (field - 1) (drop start message.now))) out.old }
 {
-    let n = least(field - 1, message.len() - start);
+    let n = (field - 1).min(message.len() - start);
     let size = n + 1;
     if out.len() < size {
-        return Answer::Refused(refusals::OUTPUT);
+        return Err(Refusal::Output);
     }
     let at = byte(out, 0, lead);
     copy(out, at, &message[start..start + n]);
-    Answer::Bytes(size)
+    Ok(size)
 }
 
 // The first fragment of several: its first byte, the check byte, and the message from its second byte on. It fills the field.
-fn first_of(message: &[u8], field: usize, lead: u8, check: u8, out: &mut [u8]) -> Answer
+fn first_of(
+    message: &[u8],
+    field: usize,
+    lead: u8,
+    check: u8,
+    out: &mut [u8],
+) -> Result<usize, Refusal>
     requires { (3 ≤ field) × ((field ≤ 512) × (field < length message.now)) }
     ensures { left (outcome_of result) out.new ≡ into (answer (lead ∷ check ∷ take (field - 2) (drop 1 message.now))) out.old }
 {
     if out.len() < field {
-        return Answer::Refused(refusals::OUTPUT);
+        return Err(Refusal::Output);
     }
     let at = byte(out, 0, lead);
     let rest = byte(out, at, check);
     copy(out, rest, &message[1..field - 1]);
-    Answer::Bytes(field)
+    Ok(field)
 }
 
 // Fragment k of several.
-fn several(message: &[u8], field: usize, mask: u8, count: usize, k: usize, out: &mut [u8]) -> Answer
+fn several(
+    message: &[u8],
+    field: usize,
+    mask: u8,
+    count: usize,
+    k: usize,
+    out: &mut [u8],
+) -> Result<usize, Refusal>
     requires le_field { (3 ≤ field) × ((field ≤ 512) × ((field < length message.now) × (length message.now ≤ 5000))) }
     requires count_value { (count ≡ count_of (length message.now) field) × ((count ≤ 257) × (k < count)) }
     requires message_bound { get_or message.now 0 0 < 128 }
@@ -114,20 +124,26 @@ fn several(message: &[u8], field: usize, mask: u8, count: usize, k: usize, out: 
 }
 
 // The one fragment of a message that the field holds: the message.
-fn whole(message: &[u8], out: &mut [u8]) -> Answer
+fn whole(message: &[u8], out: &mut [u8]) -> Result<usize, Refusal>
     requires { length message.now ≤ 5000 }
     ensures { left (outcome_of result) out.new ≡ into (answer message.now) out.old }
 {
     let len = message.len();
     if out.len() < len {
-        return Answer::Refused(refusals::OUTPUT);
+        return Err(Refusal::Output);
     }
     copy(out, 0, message);
-    Answer::Bytes(len)
+    Ok(len)
 }
 
 // Fragment k of a message whose field, mask, length and first byte are accepted.
-fn numbered(message: &[u8], field: usize, mask: u8, k: usize, out: &mut [u8]) -> Answer
+fn numbered(
+    message: &[u8],
+    field: usize,
+    mask: u8,
+    k: usize,
+    out: &mut [u8],
+) -> Result<usize, Refusal>
     requires field_value { (field_ok field ≡ true) × (mask_ok mask ≡ true) }
     requires message_nonzero { (0 < length message.now) × ((length message.now ≤ 5000) × (get_or message.now 0 0 < 128)) }
     ensures { left (outcome_of result) out.new ≡ into (send_of message.now field mask k) out.old }
@@ -137,10 +153,10 @@ fn numbered(message: &[u8], field: usize, mask: u8, k: usize, out: &mut [u8]) ->
     // count - 2 goes into the bits that the mask leaves free
     let room = 255 - mask as usize + 2;
     if room < fragments {
-        return Answer::Refused(refusals::COUNT);
+        return Err(Refusal::Count);
     }
     if fragments <= k {
-        return Answer::Refused(refusals::NUMBER);
+        return Err(Refusal::Number);
     }
     if len <= field {
         return whole(message, out);
@@ -149,24 +165,30 @@ fn numbered(message: &[u8], field: usize, mask: u8, k: usize, out: &mut [u8]) ->
 }
 
 // Fragment k of a message, counted from 0, to the front of the output. A refusal leaves the output as it was.
-pub fn fragment(message: &[u8], field: usize, mask: u8, k: usize, out: &mut [u8]) -> Answer
+pub fn fragment(
+    message: &[u8],
+    field: usize,
+    mask: u8,
+    k: usize,
+    out: &mut [u8],
+) -> Result<usize, Refusal>
     ensures { left (outcome_of result) out.new ≡ into (send_of message.now field mask k) out.old }
 {
     let len = message.len();
     if !refusals::field_ok(field) {
-        return Answer::Refused(refusals::FIELD);
+        return Err(Refusal::Field);
     }
     if !refusals::mask_ok(mask) {
-        return Answer::Refused(refusals::MASK);
+        return Err(Refusal::Mask);
     }
     if len == 0 {
-        return Answer::Refused(refusals::EMPTY);
+        return Err(Refusal::Empty);
     }
     if refusals::MAX_MESSAGE < len {
-        return Answer::Refused(refusals::TOO_LONG);
+        return Err(Refusal::TooLong);
     }
     if 0x80 <= message[0] {
-        return Answer::Refused(refusals::FIRST_BYTE);
+        return Err(Refusal::FirstByte);
     }
     numbered(message, field, mask, k, out)
 }

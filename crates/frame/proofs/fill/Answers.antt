@@ -1,47 +1,48 @@
--- `frame::fill` meets its contract. Behind the marker the loop has written zeros.
+-- `frame::fill` meets its contract: the marker and zeros up to the end, or nothing at the end.
 -- Assumes nothing.
-use borrow.Author.Rules.{rules}
-use mathlib.Core.Path.{◌≡◌}
-use mathlib.Core.List.{List, [], ◌∷◌}
-use Prim.Native.Nat.{ℕ, suc, ◌+◌, ◌-◌, ◌≤◌, ◌<◌}
+use mathlib.Core.Path.{◌≡◌, ap, ◌∙◌}
+use mathlib.Core.List.{List}
+use Prim.Native.Nat.{ℕ, suc, ◌+◌, ◌-◌, ◌≤◌}
 use native.Mathlib.Omega.{arith}
-use lib.ListN.{replicate, replicate-append-replicate}
+use lib.ListN.{length, set, take, drop, replicate, length-replicate, length-set, length-drop}
+use lib.Seq.{sets, length-take-le}
+use borrow.Rule.Slice.PartMut.{put_mid}
 use Rattle.laws.specs.Wrote.{Wrote}
-use Rattle.laws.proofs.WroteLaws.{wrote_then, wrote_none, wrote_as}
+use Rattle.laws.proofs.WroteLaws.{wrote_none}
 use Rattle.frame.specs.Frame.{fill_of}
+use Rattle.frame.proofs.PartLaws.{put_sets}
 use Rattle.frame.proofs.fill.Goals as goal
 
-no_zeros : {b : List ℕ} (at : ℕ) → Wrote b at (replicate (at - at) 0) b at
-no_zeros at = let z : at - at ≡ 0 = omega arith in rw z wrote_none
-
--- one zero more
-zero_more : {b c d : List ℕ} {at i j : ℕ} → at ≤ i → Wrote b at (replicate (i - at) 0) c i → Wrote c i (0 ∷ []) d j → Wrote b at (replicate (j - at) 0) d j
-zero_more {at = at} {i = i} {j = j} h f g =
-    let z : i - at + 1 ≡ j - at = omega (arith, g.next_is) in
-    wrote_as (rw (← z) (replicate-append-replicate (i - at) 1 0)) (wrote_then f g)
-
-no_fill : {b : List ℕ} {at end : ℕ} (marker : ℕ) → at ≡ end → Wrote b at (fill_of (end - at) marker) b at
+no_fill : {b : List ℕ} {at end : ℕ} (marker : ℕ) → at ≤ end → end ≤ at → Wrote b at (fill_of (end - at) marker) b end
 unfolding fill_of
-no_fill {at = at} {end = end} marker e = let z : end - at ≡ 0 = omega arith in rw z wrote_none
+no_fill {at = at} {end = end} marker f e =
+    let z : end - at ≡ 0 = omega arith in
+    let s : end ≡ at = omega arith in
+    rw (z, s) wrote_none
 
--- the marker, and zeros up to the end
-filled : {b c d : List ℕ} {at p q end marker : ℕ} → at < end → q ≡ end
-    → Wrote b at (marker ∷ []) c p → Wrote c p (replicate (q - p) 0) d q → Wrote b at (fill_of (end - at) marker) d q
+-- the marker and n zeros, up to the end
+filled : (b ys : List ℕ) (at n end marker : ℕ) → at + suc n ≡ end → end ≤ length b → ys ≡ replicate n 0
+    → Wrote b at (fill_of (suc n) marker) (put_mid (at + 1) n (set b at marker) ys) end
 unfolding fill_of
-filled {at = at} {p = p} {q = q} {end = end} h e f g =
-    let z : end - at ≡ suc (q - p) = omega (arith, f.next_is) in rw z (wrote_then f g)
+filled b ys at n end marker e h y =
+    let zeros : List ℕ = replicate n 0 in
+    let next : at + 1 ≡ suc at = omega arith in
+    let size : length zeros ≡ n = length-replicate n 0 in
+    record {
+      stored = rw y (put_sets (at + 1) n (set b at marker) zeros size (omega (arith, length-set b at marker)) ∙ ap (λ (k : ℕ). sets (set b at marker) k zeros) next);
+      next_is = omega arith;
+    }
+
+-- the part after the marker
+size_part : (b : List ℕ) (at marker n : ℕ) → at + 1 + n ≤ length b → length (take n (drop (at + 1) (set b at marker))) ≡ n
+size_part b at marker n h = length-take-le n (drop (at + 1) (set b at marker)) (omega (arith, length-drop (at + 1) (set b at marker), length-set b at marker))
 
 pub returns-then-at-end : goal.returns-then-at-end
-returns-then-at-end c = no_fill c.args.marker c.if-at-end.true
+returns-then-at-end c =
+    let a = c.args in
+    let n : a.end - a.at ≡ suc (a.end - (a.at + 1)) = omega arith in
+    let part : length (take (a.end - (a.at + 1)) (drop (a.at + 1) (set a.out.now a.at a.marker))) ≡ a.end - (a.at + 1) = size_part a.out.now a.at a.marker (a.end - (a.at + 1)) (omega arith) in
+    rw n (filled a.out.now c.fill.new.self a.at (a.end - (a.at + 1)) a.end a.marker (omega arith) c.requires.1 (c.fill.ensures.after (λ y e. e) ∙ ap (λ (k : ℕ). replicate k 0) part))
 
-pub loop-next-init : goal.loop-next-init
-loop-next-init c =
-    (search rules, search rules, search rules, no_zeros c.byte-next.result)
-
-pub loop-next-preserved : goal.loop-next-preserved
-loop-next-preserved c =
-    let byte = c.byte-next-in-loop-next in
-    (search rules, search rules, search rules, zero_more c.loop-next.invariant.0 c.loop-next.invariant.3 byte.ensures)
-
-pub returns : goal.returns
-returns c = filled (omega arith) (omega arith) c.byte-next.ensures c.loop-next.invariant.3
+pub returns-else-at-end : goal.returns-else-at-end
+returns-else-at-end c = no_fill c.args.marker c.requires.0 c.if-at-end.false

@@ -4,7 +4,6 @@ use mathlib.Core.Bool.{true}
 use mathlib.Core.Path.{◌≡◌, sym, ap, ◌∙◌}
 use Rattle.refusals.specs.Limits.{field_ok}
 use Rattle.refusals.specs.Outcome.{answer}
-use Rattle.refusals.proofs.LimitLaws.{field_low, field_high}
 use Rattle.sender.proofs.SendLaws.{count_field, count_long, count_answer}
 use Rattle.sender.proofs.count_for_field.Goals as goal
 
@@ -16,14 +15,11 @@ returns-then-not-field_ok c =
 pub returns-then-total-gt-MAX_MESSAGE : goal.returns-then-total-gt-MAX_MESSAGE
 returns-then-total-gt-MAX_MESSAGE c =
     let a = c.args in
-    sym (count_long a.total a.field ((let fact : field_ok c.args.field ≡ true = sym c.field_ok.ensures ∙ c.if-not-field_ok.false in fact)) c.if-total-gt-MAX_MESSAGE.true)
-
-pub count-requires : goal.count-requires
-count-requires c =
-    let field = c.args.field in
-    (field_low field ((let fact : field_ok c.args.field ≡ true = sym c.field_ok.ensures ∙ c.if-not-field_ok.false in fact)), (field_high field ((let fact : field_ok c.args.field ≡ true = sym c.field_ok.ensures ∙ c.if-not-field_ok.false in fact)), c.if-total-gt-MAX_MESSAGE.false))
+    let field_good : field_ok c.args.field ≡ true = sym c.field_ok.ensures ∙ c.if-not-field_ok.false in
+    sym (count_long a.total a.field field_good c.if-total-gt-MAX_MESSAGE.true)
 
 pub returns : goal.returns
 returns c =
     let a = c.args in
-    ap answer c.count.ensures ∙ sym (count_answer a.total a.field ((let fact : field_ok c.args.field ≡ true = sym c.field_ok.ensures ∙ c.if-not-field_ok.false in fact)) c.if-total-gt-MAX_MESSAGE.false)
+    let field_good : field_ok c.args.field ≡ true = sym c.field_ok.ensures ∙ c.if-not-field_ok.false in
+    ap answer c.count.ensures ∙ sym (count_answer a.total a.field field_good c.if-total-gt-MAX_MESSAGE.false)

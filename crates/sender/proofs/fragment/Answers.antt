@@ -17,26 +17,30 @@ returns-then-not-field_ok c =
 pub returns-then-not-mask_ok : goal.returns-then-not-mask_ok
 returns-then-not-mask_ok c =
     let a = c.args in
+    let field_good : field_ok c.args.field ≡ true = sym c.field_ok.ensures ∙ c.if-not-field_ok.false in
     into_refuses a.out.now 9
-    (send_mask a.message.now a.field a.mask a.k ((let fact : field_ok c.args.field ≡ true = sym c.field_ok.ensures ∙ c.if-not-field_ok.false in fact)) (sym c.mask_ok.ensures ∙ c.if-not-mask_ok.true))
+    (send_mask a.message.now a.field a.mask a.k field_good (sym c.mask_ok.ensures ∙ c.if-not-mask_ok.true))
 
 pub returns-then-len-eq0 : goal.returns-then-len-eq0
 returns-then-len-eq0 c =
     let a = c.args in
+    let field_good : field_ok c.args.field ≡ true = sym c.field_ok.ensures ∙ c.if-not-field_ok.false in
+    let mask_good : mask_ok c.args.mask ≡ true = sym c.mask_ok.ensures ∙ c.if-not-mask_ok.false in
     into_refuses a.out.now 10
-    (send_empty a.message.now a.field a.mask a.k ((let fact : field_ok c.args.field ≡ true = sym c.field_ok.ensures ∙ c.if-not-field_ok.false in fact)) ((let fact : mask_ok c.args.mask ≡ true = sym c.mask_ok.ensures ∙ c.if-not-mask_ok.false in fact)) c.if-len-eq0.true)
+    (send_empty a.message.now a.field a.mask a.k field_good mask_good c.if-len-eq0.true)
 
 pub returns-then-len-gt-MAX_MESSAGE : goal.returns-then-len-gt-MAX_MESSAGE
 returns-then-len-gt-MAX_MESSAGE c =
     let a = c.args in
+    let field_good : field_ok c.args.field ≡ true = sym c.field_ok.ensures ∙ c.if-not-field_ok.false in
+    let mask_good : mask_ok c.args.mask ≡ true = sym c.mask_ok.ensures ∙ c.if-not-mask_ok.false in
     into_refuses a.out.now 2
-    (send_long a.message.now a.field a.mask a.k ((let fact : field_ok c.args.field ≡ true = sym c.field_ok.ensures ∙ c.if-not-field_ok.false in fact)) ((let fact : mask_ok c.args.mask ≡ true = sym c.mask_ok.ensures ∙ c.if-not-mask_ok.false in fact)) c.if-len-gt-MAX_MESSAGE.true)
+    (send_long a.message.now a.field a.mask a.k field_good mask_good c.if-len-gt-MAX_MESSAGE.true)
 
 pub returns-then-message-ge128 : goal.returns-then-message-ge128
 returns-then-message-ge128 c =
     let a = c.args in
+    let field_good : field_ok c.args.field ≡ true = sym c.field_ok.ensures ∙ c.if-not-field_ok.false in
+    let mask_good : mask_ok c.args.mask ≡ true = sym c.mask_ok.ensures ∙ c.if-not-mask_ok.false in
     into_refuses a.out.now 11
-    (send_high a.message.now a.field a.mask a.k ((let fact : field_ok c.args.field ≡ true = sym c.field_ok.ensures ∙ c.if-not-field_ok.false in fact)) ((let fact : mask_ok c.args.mask ≡ true = sym c.mask_ok.ensures ∙ c.if-not-mask_ok.false in fact)) (omega arith) c.if-len-gt-MAX_MESSAGE.false c.if-message-ge128.true)
-
-pub numbered-requires : goal.numbered-requires
-numbered-requires c = record { field_value = ((let fact : field_ok c.args.field ≡ true = sym c.field_ok.ensures ∙ c.if-not-field_ok.false in fact), (let fact : mask_ok c.args.mask ≡ true = sym c.mask_ok.ensures ∙ c.if-not-mask_ok.false in fact)); message_nonzero = (omega arith, (c.if-len-gt-MAX_MESSAGE.false, c.if-message-ge128.false)) }
+    (send_high a.message.now a.field a.mask a.k field_good mask_good (omega arith) c.if-len-gt-MAX_MESSAGE.false c.if-message-ge128.true)

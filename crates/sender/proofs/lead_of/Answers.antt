@@ -8,5 +8,5 @@ use Rattle.sender.proofs.lead_of.Goals as goal
 pub returns-then-k-count : goal.returns-then-k-count
 returns-then-k-count c = let a = c.args in sym (lead_more a.first a.k a.count (omega arith))
 
-pub returns : goal.returns
-returns c = let a = c.args in sym (lead_last a.first a.k a.count (omega arith))
+pub returns-else-k-count : goal.returns-else-k-count
+returns-else-k-count c = let a = c.args in sym (lead_last a.first a.k a.count (omega arith))

@@ -27,11 +27,11 @@ returns-then-out-size c =
     let a = c.args in
     let m = a.message.now in
     sym (into_short (a.lead ∷ take (a.field - 1) (drop a.start m)) a.out.now
-    (omega (arith, size (a.field - 1) a.start m, c.least-n.ensures, c.if-out-size.true)))
+    (omega (arith, size (a.field - 1) a.start m, c.min-n.ensures, c.if-out-size.true)))
 
 pub returns : goal.returns
 returns c =
-    let least = c.least-n in
+    let least = c.min-n in
     let a = c.args in
     let m = a.message.now in
     let part = take (a.field - 1) (drop a.start m) in

@@ -5,7 +5,6 @@ use mathlib.Core.Path.{◌≡◌, refl, sym, ap, ◌∙◌}
 use Prim.Native.Nat.{ℕ, ◌+◌, ◌-◌, ◌<◌}
 use lib.ListN.{length}
 use Rattle.refusals.specs.Outcome.{answer}
-use Rattle.refusals.proofs.LimitLaws.{field_low, field_high}
 use Rattle.sender.specs.Send.{count_of, most_of}
 use Rattle.refusals.proofs.OutcomeLaws.{into_is, into_refuses}
 use Rattle.sender.proofs.SendLaws.{Sendable, fragment_whole, send_crowded, send_past, send_answer}
@@ -14,10 +13,6 @@ use Rattle.sender.proofs.numbered.Goals as goal
 most_is : (mask : ℕ) → most_of mask ≡ 255 - mask + 2
 unfolding most_of
 most_is mask = refl
-
-pub count-fragments-requires : goal.count-fragments-requires
-count-fragments-requires c =
-    (field_low c.args.field c.requires.field_value.0, (field_high c.args.field c.requires.field_value.0, omega arith))
 
 pub returns-then-room-fragments : goal.returns-then-room-fragments
 returns-then-room-fragments c =
@@ -30,30 +25,27 @@ returns-then-room-fragments c =
 pub returns-then-fragments-k : goal.returns-then-fragments-k
 returns-then-fragments-k c =
     let a = c.args in
+    let sendable_here : Sendable a.message.now a.field a.mask = record { field_ok_holds = c.requires.field_value.0; mask_ok_holds = c.requires.field_value.1; some = omega arith; short = omega arith; first_low = omega arith; room = omega (arith, most_is c.args.mask, c.count-fragments.ensures) } in
     into_refuses a.out.now 13
-    (send_past a.message.now a.field a.mask a.k ((let fact : let a = c.args in Sendable a.message.now a.field a.mask = record { field_ok_holds = c.requires.field_value.0; mask_ok_holds = c.requires.field_value.1; some = omega arith; short = omega arith; first_low = omega arith; room = omega (arith, most_is c.args.mask, c.count-fragments.ensures) } in fact)) (omega (arith, c.count-fragments.ensures)))
+    (send_past a.message.now a.field a.mask a.k sendable_here (omega (arith, c.count-fragments.ensures)))
 
 pub returns-then-len-field : goal.returns-then-len-field
 returns-then-len-field c =
     let a = c.args in
+    let sendable_here : Sendable a.message.now a.field a.mask = record { field_ok_holds = c.requires.field_value.0; mask_ok_holds = c.requires.field_value.1; some = omega arith; short = omega arith; first_low = omega arith; room = omega (arith, most_is c.args.mask, c.count-fragments.ensures, c.if-room-fragments.false) } in
     let m = a.message.now in
     let below : a.k < count_of (length m) a.field = omega (arith, c.count-fragments.ensures, c.if-fragments-k.false) in
     into_is a.out.now
     (sym
-    (send_answer m a.field a.mask a.k ((let fact : let a = c.args in Sendable a.message.now a.field a.mask = record { field_ok_holds = c.requires.field_value.0; mask_ok_holds = c.requires.field_value.1; some = omega arith; short = omega arith; first_low = omega arith; room = omega (arith, most_is c.args.mask, c.count-fragments.ensures, c.if-room-fragments.false) } in fact)) below
+    (send_answer m a.field a.mask a.k sendable_here below
     ∙ ap answer (fragment_whole m a.field a.mask a.k c.if-len-field.true below)))
     c.whole.ensures
-
-pub several-requires : goal.several-requires
-several-requires c =
-    let low = field_low c.args.field c.requires.field_value.0 in
-    let high = field_high c.args.field c.requires.field_value.0 in
-    omega (arith, c.count-fragments.ensures, c.if-room-fragments.false, c.requires.message_nonzero)
 
 pub returns : goal.returns
 returns c =
     let a = c.args in
+    let sendable_here : Sendable a.message.now a.field a.mask = record { field_ok_holds = c.requires.field_value.0; mask_ok_holds = c.requires.field_value.1; some = omega arith; short = omega arith; first_low = omega arith; room = omega (arith, most_is c.args.mask, c.count-fragments.ensures, c.if-room-fragments.false) } in
     let m = a.message.now in
     into_is a.out.now
-    (sym (send_answer m a.field a.mask a.k ((let fact : let a = c.args in Sendable a.message.now a.field a.mask = record { field_ok_holds = c.requires.field_value.0; mask_ok_holds = c.requires.field_value.1; some = omega arith; short = omega arith; first_low = omega arith; room = omega (arith, most_is c.args.mask, c.count-fragments.ensures, c.if-room-fragments.false) } in fact)) (omega (arith, c.count-fragments.ensures, c.if-fragments-k.false))))
+    (sym (send_answer m a.field a.mask a.k sendable_here (omega (arith, c.count-fragments.ensures, c.if-fragments-k.false))))
     c.several.ensures

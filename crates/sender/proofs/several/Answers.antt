@@ -35,11 +35,11 @@ returns-then-k-eq0 c =
     ∙ first_is m a.field a.mask a.count a.k n (omega arith) c.if-k-eq0.true))
     c.first_of.ensures
 
-pub overflow_mul-k : goal.overflow_mul-k
-overflow_mul-k c = omega (arith, (let fact : let a = c.args in a.k * (a.field - 1) < length a.message.now = let a = c.args in starts_within (length a.message.now) a.field a.k (omega arith) (omega arith) (omega arith) in fact))
-
 pub next_of-requires : goal.next_of-requires
-next_of-requires c = omega (arith, (let fact : let a = c.args in a.k * (a.field - 1) < length a.message.now = let a = c.args in starts_within (length a.message.now) a.field a.k (omega arith) (omega arith) (omega arith) in fact))
+next_of-requires c =
+    let a = c.args in
+    let known : a.k * (a.field - 1) < length a.message.now = starts_within (length a.message.now) a.field a.k (omega arith) (omega arith) (omega arith) in
+    omega (arith, known)
 
 pub returns : goal.returns
 returns c =

@@ -1,22 +1,20 @@
 -- `frame::Control::byte` meets its contract.
 -- Assumes nothing.
 use native.Mathlib.Omega.{arith}
-use Rattle.laws.proofs.BitLaws.{num_lt}
+use mathlib.Core.Bool.{Bool, true, false}
+use mathlib.Core.Path.{◌≡◌, refl, ◌∙◌}
+use mir.Val.{bool_byte}
+use Rattle.laws.specs.Bits.{num}
 use Rattle.frame.specs.Frame.{control_byte}
 use Rattle.frame.proofs.Control.byte.Goals as goal
 
-pub overflow_mul-result-2 : goal.overflow_mul-result-2
-overflow_mul-result-2 c = let a = c.args in omega (arith, num_lt a.self.compressed)
-
-pub overflow_add-result : goal.overflow_add-result
-overflow_add-result c = let a = c.args in omega (arith, num_lt a.self.compressed)
-
-pub overflow_add-result-2 : goal.overflow_add-result-2
-overflow_add-result-2 c = let a = c.args in omega (arith, num_lt a.self.compressed)
-
-pub overflow_add-result-3 : goal.overflow_add-result-3
-overflow_add-result-3 c = let a = c.args in omega (arith, num_lt a.self.compressed, num_lt a.full)
+byte_num : (b : Bool) → bool_byte b ≡ num b
+unfolding num
+byte_num true = refl
+byte_num false = refl
 
 pub returns : goal.returns
 unfolding control_byte
-returns c = omega (arith, c.bit.ensures, c.bit-compressed.ensures)
+returns c =
+    let a = c.args in
+    omega (arith, c.from.ensures ∙ byte_num a.self.compressed, c.from-2.ensures ∙ byte_num a.full)
