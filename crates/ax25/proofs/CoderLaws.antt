@@ -162,6 +162,32 @@ module _ (l : ℕ) (two : 2 ≤ l) (high : l ≤ 7) (b : List Bool) (at : ℕ) (
 
 -- ---- the digipeaters
 
+-- the number of an alias takes three bits
+alias_from_le : (k : ℕ) (names digis : List (List ℕ)) → alias_from k names digis ≤ k + length names
+unfolding alias_from
+alias_from_le k [] digis = omega arith
+alias_from_le k (a ∷ names) digis =
+    let same = same_all digis (alias_calls a 1 (length digis)) in
+    by_test same
+    (λ h. rw (pick_true k (alias_from (suc k) names digis) h) (omega arith))
+    (λ h. rw (pick_false k (alias_from (suc k) names digis) h) (omega (arith, alias_from_le (suc k) names digis)))
+
+pub alias_small : (vs : List (List ℕ)) → alias_of vs ≤ 6
+unfolding alias_of
+alias_small [] = omega arith
+alias_small (v ∷ vs) = omega (arith, alias_from_le 1 aliases (v ∷ vs), alias_count)
+  where
+    alias_count : length aliases ≡ 5
+    alias_count = refl
+
+-- the bit that says whether there is one
+alias_flag : (o : Option ℕ) → is_some o ≡ ltb 0 (alias_number o)
+alias_flag None = refl
+alias_flag (Some i) = sym (lt-ltb 0 (suc i) (omega arith))
+
+pub alias_bit : (o : Option ℕ) {b c : List Bool} {at p : ℕ} → Wrote b at (is_some o ∷ []) c p → Wrote b at (ltb 0 (alias_number o) ∷ []) c p
+alias_bit o w = rw (← alias_flag o) w
+
 pub digis_none : (l : ℕ) (ap : Bool) (vs : List (List ℕ)) (b : List Bool) (at : ℕ) → length vs ≡ 0 → Puts b at (digi_bits l ap vs) b (Some at)
 unfolding digi_bits
 digis_none l ap [] b at e = wrote_none
@@ -189,8 +215,8 @@ module _ (l : ℕ) (vs : List (List ℕ)) (h : length vs ≡ 0 → ⊥) (ap : Bo
 
     pub digis_marked : a ≤ 0 → (r : Option ℕ) → Puts c p (tokens_bits l vs) e r → Puts b at (digi_bits l ap vs) e r
     digis_marked k r f =
-        let None : alias_of vs ≡ 0 = omega (arith, k, alias) in
-        rw q (by vs h None (rw (le-ltb 0 a k) at w) r f)
+        let missing : alias_of vs ≡ 0 = omega (arith, k, alias) in
+        rw q (by vs h missing (rw (le-ltb 0 a k) at w) r f)
       where
         by : (vs : List (List ℕ)) → (length vs ≡ 0 → ⊥) → alias_of vs ≡ 0 → Wrote b at (false ∷ []) c p → (r : Option ℕ) → Puts c p (tokens_bits l vs) e r → Puts b at (digi_bits l true vs) e r
         by [] m z u r g = absurd (m refl)

@@ -9,6 +9,7 @@ ghost use Rattle.ax25_token.specs.Put.{cased_of, Puts};
 ghost use Rattle.ax25_token.specs.Token.{token_bits};
 ghost use Rattle.ax25_address.specs.Address.{addr_call, heard_in};
 ghost use Rattle.ax25_address.specs.Kind.{type_number};
+ghost use Rattle.ax25_address.specs.Record.{alias_number};
 ghost use Rattle.ax25_address.specs.Parse.{Parsed, fields_of, parse_of, type_of, alias_of};
 ghost use Rattle.ax25_address.specs.Record.{record_of, seen_of};
 ghost use Rattle.ax25_address.specs.Types.{Text, call_len};
@@ -17,7 +18,7 @@ ghost use Rattle.ax25.specs.Codes.{Codes};
 ghost use Rattle.ax25.specs.Encode.{digi_code, type_width, tokens_bits, digi_bits, head_bits, info_bits, encode_of};
 
 use ax25_address::address::addr_call;
-use ax25_address::classify::{AprsType, code};
+use ax25_address::classify::AprsType;
 use ax25_address::parse::addr_end;
 use ax25_address::record::{PID_NO_L3, Record, UI_CTRL, call_len};
 use ax25_body::body::aprs_encode;
@@ -59,9 +60,9 @@ fn put_tokens(f: &[u8], l: usize, n: usize, out: &mut [u8], at: usize) -> Option
 }
 
 // The digipeaters: where the destination starts with AP a bit says whether they are an alias, else there are only tokens.
-fn put_digis(f: &[u8], l: usize, n: usize, ap: bool, alias: usize, out: &mut [u8], at: usize) -> Option<usize>
+fn put_digis(f: &[u8], l: usize, n: usize, ap: bool, alias: Option<usize>, out: &mut [u8], at: usize) -> Option<usize>
     requires { (n ≤ 8) × (2 ≤ l) × (l ≤ 7) × (n * (l + 1) ≤ length f.now) × (length f.now < 2 ^ 60) × (at < 2 ^ 59)
-        × (alias ≡ alias_of (map (addr_call l) (fields_of l n f.now))) }
+        × (alias_number alias ≡ alias_of (map (addr_call l) (fields_of l n f.now))) }
     ensures { Puts (unpack out.old) at (digi_bits l ap (map (addr_call l) (fields_of l n f.now))) (unpack out.new) result }
 {
     if n == 0 {
@@ -70,9 +71,9 @@ fn put_digis(f: &[u8], l: usize, n: usize, ap: bool, alias: usize, out: &mut [u8
     if !ap {
         return put_tokens(f, l, n, out, at);
     }
-    let p = bit(out, at, 0 < alias);
-    if 0 < alias {
-        return Some(push(out, p, alias as u64, 3));
+    let p = bit(out, at, alias.is_some());
+    if let Some(i) = alias {
+        return Some(push(out, p, i as u64 + 1, 3));
     }
     put_tokens(f, l, n, out, p)
 }
@@ -82,10 +83,7 @@ fn put_type(t: AprsType, ap: bool, out: &mut [u8], at: usize) -> usize
     requires { at < 2 ^ 62 }
     ensures { Wrote (unpack out.old) at (bits_of (type_width ap) (type_number t)) (unpack out.new) result }
 {
-    if ap {
-        return push(out, at, code(t) as u64, 3);
-    }
-    push(out, at, code(t) as u64, 1)
+    push(out, at, u64::from(u8::from(t)), if ap { 3 } else { 1 })
 }
 
 // The bits before the body, behind the header byte: H bits, destination, source, digipeaters, type.
