@@ -21,7 +21,7 @@ fn calm(s: &[u8], i: usize) -> bool
 {
     let mut stop = false;
     for k in 0..16 {
-        stop = stop | may_stop(s[i + k], s[i + k + 1]);
+        stop |= may_stop(s[i + k], s[i + k + 1]);
     }
     !stop
 }
@@ -51,7 +51,8 @@ fn plain_block(s: &[u8], i: usize) -> usize
     }
 }
 
-// How many bytes at the front are plain.
+// How many bytes at the front are plain. The place goes on by whole blocks and stops early, which a `for` over a range would not say
+// more plainly.
 pub fn plain(s: &[u8]) -> usize
     ensures { (result ≡ plain_len s.now) × (result ≤ length s.now) }
 {

@@ -63,7 +63,8 @@ fn part(s: &[u8], position: bool, out: &mut [u8], at: usize) -> Option<(usize, u
     Some((size, bits_write::push_sevens(out, at, &s[0..size])))
 }
 
-// A text from a position on; where an altitude is no number nothing is said of the output.
+// A text from a position on; where an altitude is no number nothing is said of the output. A part takes one byte or many, so that no
+// `for` counts them.
 pub fn text_encode(s: &[u8], position: bool, out: &mut [u8], at: usize) -> Result<usize, Refusal>
     requires { at + length s.now * 7 < 2 ^ 61 }
     ensures { Does (or_refused 5 (text_bits position s.now)) (unpack out.old) at (unpack out.new) result }
@@ -123,7 +124,8 @@ fn all_selves(v: u64) -> bool
     (v | (v >> 1)) & second == second
 }
 
-// How many codes from a position on stand for themselves, counted by eights as long as eight bytes are left.
+// How many codes from a position on stand for themselves, counted by eights as long as eight bytes are left. The count and the position
+// both go on, so that the loop multiplies nothing.
 fn selves(s: &[u8], at: usize) -> usize
     requires { length s.now < 2 ^ 55 }
     ensures { (result * 7 ≤ length s.now * 8 - at) × Selves result (drop at (unpack s.now)) }
@@ -148,7 +150,8 @@ fn put_selves(s: &[u8], at: usize, out: &mut [u8], to: usize) -> usize
     n
 }
 
-// The text from a position on, written from a place of the output on. The next place.
+// The text from a position on, written from a place of the output on. The next place. A code takes its own bits and those after it, so
+// that no `for` counts them.
 pub fn text_decode(s: &[u8], at: usize, position: bool, out: &mut [u8], to: usize) -> usize
     requires { (length s.now < 2 ^ 55) × (to < 2 ^ 56) }
     ensures { Wrote out.old to (read_text position (drop at (unpack s.now))) out.new result }

@@ -100,7 +100,8 @@ fn has_mark(m: u64, x: u8) -> bool
     (m >> (x % 64)) % 2 == 1
 }
 
-// The first word that s has from place i on. At most places the marks of two bytes tell that there is none.
+// The first word that s has from place i on. At most places the marks of two bytes tell that there is none: both are tested, with one
+// branch.
 pub fn word_from(s: &[u8], i: usize) -> Option<usize>
     requires { i < length s.now }
     ensures { Spells (drop i s.now) result }
