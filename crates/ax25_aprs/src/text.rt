@@ -31,7 +31,7 @@ fn with_altitude(s: &[u8], out: &mut [u8], at: usize) -> Option<(usize, usize)>
 }
 
 // What stands at the front: an altitude, a word or, where there is none, a byte.
-fn front(
+fn front_as(
     s: &[u8],
     word: Option<usize>,
     position: bool,
@@ -57,7 +57,7 @@ fn part(s: &[u8], position: bool, out: &mut [u8], at: usize) -> Option<(usize, u
 {
     let word = words::word_at(s);
     if word.is_some() || 0x80 <= s[0] {
-        return front(s, word, position, out, at);
+        return front_as(s, word, position, out, at);
     }
     let size = runs::plain(s);
     Some((size, bits_write::push_sevens(out, at, &s[0..size])))
@@ -105,12 +105,13 @@ fn put_code(s: &[u8], at: usize, position: bool, code: u64, out: &mut [u8], to: 
     ensures { Wrote out.old to (code_text position code (drop at (unpack s.now))) out.new result }
 {
     match code {
-        0 | 10..=31 => to,
+        0 => to,
         1 => {
             let next = words::put_word(out, to, 1);
             put_altitude(s, at, position, out, next)
         }
         2..=9 => words::put_word(out, to, code as usize),
+        10..=31 => to,
         _ => bits_write::byte(out, to, code as u8),
     }
 }

@@ -21,7 +21,7 @@ returns-then-is_some c =
       | then-is_some-via-then-is_some w ↦ no_run_word s (spells_some s c.word_at-word.result (sym c.is_some.ensures ∙ w.if-is_some.true) c.word_at-word.ensures)
       | then-is_some-via-else-is_some+then-s-ge128 w ↦ no_run_high s w.if-s-ge128.true
     ] in
-    rw (part_front p s none, part_front_size p s none) c.front.ensures
+    rw (part_front p s none, part_front_size p s none) c.front_as.ensures
 
 pub returns : goal.returns
 returns c =

@@ -32,7 +32,7 @@ returns-in_default c =
     let a = c.args in
     rw (code_self a.position a.code (drop a.at (unpack a.s.now)) (omega arith)) c.byte.ensures
 
-pub returns-in-0-2 : goal.returns-in-0-2
-returns-in-0-2 c =
+pub returns-in-10-to-31 : goal.returns-in-10-to-31
+returns-in-10-to-31 c =
     let a = c.args in
     rw (code_none a.position a.code (drop a.at (unpack a.s.now)) (omega arith) (omega arith)) wrote_none

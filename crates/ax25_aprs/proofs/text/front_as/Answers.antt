@@ -1,4 +1,4 @@
--- `ax25_aprs::text::front` meets its contract: each way out is a case of what stands at the front.
+-- `ax25_aprs::text::front_as` meets its contract: each way out is a case of what stands at the front.
 -- Assumes nothing.
 use native.Mathlib.Omega.{arith}
 use mathlib.Core.Path.{◌≡◌, sym, ◌∙◌}
@@ -8,7 +8,7 @@ use Rattle.ax25_aprs.specs.Text.{altitude_at}
 use Rattle.ax25_aprs.specs.Words.{word_at}
 use Rattle.ax25_aprs.proofs.TextLaws.{bits_altitude, size_altitude, bits_byte, size_byte, bits_word, size_word}
 use Rattle.ax25_aprs.proofs.Steps.{stepped}
-use Rattle.ax25_aprs.proofs.text.front.Goals as goal
+use Rattle.ax25_aprs.proofs.text.front_as.Goals as goal
 
 pub returns-in_default : goal.returns-in_default
 returns-in_default c =
