@@ -1,12 +1,12 @@
 -- Calls of an alias, and the search for one.
 -- Assumes nothing.
 use mathlib.Core.Path.{◌≡◌, refl, sym, ap, ap₂, ◌∙◌}
-use mathlib.Core.Bool.{Bool, true, false, ◌&&◌}
+use mathlib.Core.Bool.{Bool, true, false, ◌&&◌, false≢true}
 use mathlib.Core.List.{List, [], ◌∷◌, ◌++◌, map}
 use Prim.Native.Nat.{ℕ, zero, suc, ◌+◌, ◌-◌, ◌*◌, ◌≤◌, ◌<◌}
 use native.Mathlib.Nat.{suc-mul}
 use native.Mathlib.Omega.{arith}
-use lib.ListN.{length, get_or, drop, length-map}
+use lib.ListN.{length, get_or, take, drop, length-map}
 use lib.Seq.{drop-cons}
 use Rattle.laws.specs.Pick.{pick}
 use Rattle.laws.specs.Text.{ascii, same}
@@ -15,6 +15,9 @@ use Rattle.ax25_token.specs.Call.{text_of, empty, pushed, appended}
 use Rattle.ax25_token.proofs.CallLaws.{appended_append, len_appended, text_back}
 use Rattle.ax25_address.specs.Address.{addr_call}
 use Rattle.ax25_address.specs.Parse.{fields_of, aliases, alias_calls, same_all, alias_from, alias_of}
+use Rattle.laws.proofs.Cases.{by_test}
+use Rattle.laws.proofs.TextLaws.{same_eq, eq_same, ne_same}
+use Rattle.ax25_address.proofs.LetterLaws.{whole_call}
 use Rattle.ax25_address.proofs.PlaceLaws.{addr_cut}
 
 -- the call of an alias's name
@@ -23,15 +26,42 @@ name_at i = appended empty (get_or aliases i [])
 
 -- ---- a name, a digit and "-1"
 
-pub call_text_lem : (t : List ℕ) (x y z : ℕ) (c d e r : Call) → c ≡ appended empty t → c.len ≤ 4 → d ≡ pushed c x → e ≡ pushed d y → r ≡ pushed e z → text_of r ≡ t ++ (x ∷ y ∷ z ∷ [])
-unfolding appended
-call_text_lem t x y z c d e r ec n ed ee er =
-    let s = x ∷ y ∷ z ∷ [] in
-    let whole : r ≡ appended c s = er ∙ ap (λ (k : Call). pushed k z) (ee ∙ ap (λ (k : Call). pushed k y) ed) in
-    let joined : r ≡ appended empty (t ++ s) = whole ∙ ap (λ (k : Call). appended k s) ec ∙ appended_append empty t s in
-    let len : r.len ≡ c.len + 3 = ap (λ (k : Call). k.len) whole ∙ len_appended c s in
-    let size : length (t ++ s) ≤ 16 = omega (arith, len, n, len_appended empty (t ++ s), ap (λ (k : Call). k.len) joined) in
-    ap text_of joined ∙ text_back (t ++ s) size
+module _ (t : List ℕ) (x y z : ℕ) (c d e r : Call) (ec : c ≡ appended empty t) (n : c.len ≤ 4) (ed : d ≡ pushed c x) (ee : e ≡ pushed d y) (er : r ≡ pushed e z) where
+  abbrev end : List ℕ
+  end = x ∷ y ∷ z ∷ []
+
+  longer : r ≡ appended c end
+  unfolding appended
+  longer = er ∙ ap (λ (k : Call). pushed k z) (ee ∙ ap (λ (k : Call). pushed k y) ed)
+
+  joined : r ≡ appended empty (t ++ end)
+  joined = longer ∙ ap (λ (k : Call). appended k end) ec ∙ appended_append empty t end
+
+  small : r.len ≤ 16
+  small = omega (arith, ap (λ (k : Call). k.len) longer, len_appended c end, n)
+
+  pub call_text_lem : text_of r ≡ t ++ (x ∷ y ∷ z ∷ [])
+  call_text_lem =
+      ap text_of joined ∙ text_back (t ++ end) (omega (arith, small, len_appended empty (t ++ end), ap (λ (k : Call). k.len) joined))
+
+  pub call_whole : r ≡ appended empty (text_of r)
+  call_whole = whole_call (t ++ end) r joined small
+
+-- ---- the same call
+
+module _ (c d : Call) (wc : c ≡ appended empty (text_of c)) (wd : d ≡ appended empty (text_of d)) where
+  one_call : text_of c ≡ text_of d → c ≡ d
+  one_call e = wc ∙ ap (appended empty) e ∙ sym wd
+
+  pub same_bytes : c.len ≡ d.len → same c.bytes d.bytes ≡ same (text_of c) (text_of d)
+  unfolding text_of
+  same_bytes n =
+      by_test (same c.bytes d.bytes)
+      (λ e. e ∙ sym (eq_same (text_of c) (text_of d) (ap₂ (λ (k : ℕ) (s : List ℕ). take k s) n (same_eq c.bytes d.bytes e))))
+      (λ e. e ∙ sym (ne_same (text_of c) (text_of d) (λ q. false≢true (sym e ∙ eq_same c.bytes d.bytes (ap (λ (k : Call). k.bytes) (one_call q))))))
+
+  pub other_length : (c.len ≡ d.len → ⊥) → false ≡ same (text_of c) (text_of d)
+  other_length n = sym (ne_same (text_of c) (text_of d) (λ q. n (ap (λ (k : Call). k.len) (one_call q))))
 
 -- ---- the calls of n fields
 

@@ -51,6 +51,12 @@ trimmed_text g s t r n e f =
       whole,
     )
 
+-- a call that was made of letters holds nothing but its text
+pub whole_call : (s : List ℕ) (r : Call) → r ≡ appended empty s → r.len ≤ 16 → r ≡ appended empty (text_of r)
+whole_call s r e n =
+    let few : length s ≤ 16 = omega (arith, len_appended empty s, ap (λ (x : Call). x.len) e, n) in
+    e ∙ ap (appended empty) (sym (ap text_of e ∙ text_back s few))
+
 -- ---- the letters of an address field
 
 -- a call with a letter more
@@ -67,6 +73,13 @@ halved_text l f c h k e = ap text_of e ∙ text_back (map half (take l f)) (omeg
 cased_suffix : (up : Bool) (k : ℕ) → k < 16 → map (cased_of up) (suffix k) ≡ suffix k
 cased_suffix true k h = map_up (suffix k) ∙ upper_suffix k h
 cased_suffix false k h = map_plain (suffix k)
+
+-- the letters and the SSID are the whole call
+pub field_whole : (g : ℕ → ℕ) (t : List ℕ) (k : ℕ) (c r : Call) → c ≡ appended empty (map g (trim white t)) → r ≡ appended c (suffix k) → r.len ≤ 16
+    → r ≡ appended empty (text_of r)
+field_whole g t k c r ec er n =
+    let u = map g (trim white t) in
+    whole_call (u ++ suffix k) r (er ∙ ap (λ (x : Call). appended x (suffix k)) ec ∙ appended_append empty u (suffix k)) n
 
 -- the letters and the SSID are the text of the field
 pub field_text : (up : Bool) (l : ℕ) (f t : List ℕ) (k : ℕ) (c r : Call) → t ≡ map half (take l f) → k ≡ get_or f l 0 / 2 % 16

@@ -1,6 +1,6 @@
 // The text of an address field: `addr_call` of the source.
 ghost use Rattle.std.specs.Prelude.{◌≡◌, map, ◌≤◌, ◌<◌, length, take};
-ghost use Rattle.ax25_token.specs.Call.{text_of};
+ghost use Rattle.ax25_token.specs.Call.{text_of, empty, appended};
 ghost use Rattle.ax25_token.specs.Put.{cased_of};
 ghost use Rattle.ax25_address.specs.Address.{half, addr_call};
 
@@ -25,7 +25,7 @@ fn halved(f: &[u8], l: usize) -> Call
 // The call of an address field of l letters, as it is or in capitals.
 pub fn addr_call(f: &[u8], l: usize, up: bool) -> Call
     requires { (l < length f.now) × (l ≤ 7) }
-    ensures { (text_of result ≡ map (cased_of up) (addr_call l f.now)) × (result.len ≤ 10) }
+    ensures { (text_of result ≡ map (cased_of up) (addr_call l f.now)) × (result.len ≤ 10) × (result ≡ appended empty (text_of result)) }
 {
     let h = halved(f, l);
     let c = trimmed_as(&h.bytes[0..h.len], up);

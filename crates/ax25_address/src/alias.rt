@@ -9,54 +9,53 @@ ghost use Rattle.ax25_address.specs.Record.{alias_number};
 use crate::address::addr_call;
 use ax25_token::{Call, push};
 
-// ALIASES of the source.
-const ALIASES: [Call; 5] = [
-    Call {
-        bytes: *b"WIDE            ",
-        len: 4,
-    },
-    Call {
-        bytes: *b"PNW             ",
-        len: 3,
-    },
-    Call {
-        bytes: *b"MW              ",
-        len: 2,
-    },
-    Call {
-        bytes: *b"OR              ",
-        len: 2,
-    },
-    Call {
-        bytes: *b"WA              ",
-        len: 2,
-    },
-];
-
 // The name of an alias, counted from 0.
+#[tactic(auto, unfolding(crate::specs::Parse::aliases, ax25_token::specs::Call::appended))]
 fn alias_name(i: usize) -> Call
     requires { i < 5 }
     ensures { (result ≡ appended empty (get_or aliases i [])) × (result.len ≤ 4) }
 {
-    ALIASES[i]
+    match i {
+        0 => Call {
+            bytes: *b"WIDE            ",
+            len: 4,
+        },
+        1 => Call {
+            bytes: *b"PNW             ",
+            len: 3,
+        },
+        2 => Call {
+            bytes: *b"MW              ",
+            len: 2,
+        },
+        3 => Call {
+            bytes: *b"OR              ",
+            len: 2,
+        },
+        _ => Call {
+            bytes: *b"WA              ",
+            len: 2,
+        },
+    }
 }
 
 // The k-th call of an alias: its name, the digit k and "-1".
 pub fn alias_call(i: usize, k: usize) -> Call
     requires { (i < 5) × (k ≤ 9) }
-    ensures { (text_of result ≡ get_or aliases i [] ++ ((48 + k) ∷ ascii "-1")) × (result.len ≤ 7) }
+    ensures { (text_of result ≡ get_or aliases i [] ++ ((48 + k) ∷ ascii "-1")) × (result.len ≤ 7) × (result ≡ appended empty (text_of result)) }
 {
     let c = alias_name(i);
     let d = push(c, (48 + k) as u8);
     push(push(d, b'-'), b'1')
 }
 
-// The same text.
+// The same text. A call has blanks after its text, so that whole arrays are compared: a comparison of the texts, whose lengths the
+// compiler does not know, took the search a quarter longer.
 fn same_call(c: Call, d: Call) -> bool
-    requires { (c.len ≤ 16) × (d.len ≤ 16) }
+    requires { (c ≡ appended empty (text_of c)) × (d ≡ appended empty (text_of d)) }
     ensures { result ≡ same (text_of c) (text_of d) }
 {
-    &c.bytes[0..c.len] == &d.bytes[0..d.len]
+    c.len == d.len && c.bytes == d.bytes
 }
 
 // The field's call is the k-th call of an alias.
@@ -77,7 +76,7 @@ fn are_alias(f: &[u8], l: usize, n: usize, i: usize, k: usize) -> bool
 
 // The calls of n fields, of which c is the first, are those of an alias.
 fn is_path(c: Call, f: &[u8], l: usize, n: usize, i: usize) -> bool
-    requires c_value { (text_of c ≡ addr_call l f.now) × (c.len ≤ 16) }
+    requires c_value { (text_of c ≡ addr_call l f.now) × (c ≡ appended empty (text_of c)) }
     requires n_nonzero { (0 < n) × (n ≤ 8) × (l ≤ 7) × (i < 5) × (n * (l + 1) ≤ length f.now) × (length f.now < 2 ^ 60) }
     ensures { result ≡ same_all (map (addr_call l) (fields_of l n f.now)) (alias_calls (get_or aliases i []) 1 n) }
 {

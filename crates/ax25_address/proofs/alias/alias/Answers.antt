@@ -22,7 +22,7 @@ loop-i-init c =
 pub is_path-requires : goal.is_path-requires
 is_path-requires c =
     let a = c.args in
-    let got = c.addr_call-first.ensures in record { c_value = (got.0 ∙ map_plain (addr_call a.l a.f.now), omega (arith, got.1)); n_nonzero = (omega (arith, c.if-n-eq0.false), c.requires.0, c.requires.1, search rules, c.requires.2, c.requires.3) }
+    let got = c.addr_call-first.ensures in record { c_value = (got.0 ∙ map_plain (addr_call a.l a.f.now), got.2); n_nonzero = (omega (arith, c.if-n-eq0.false), c.requires.0, c.requires.1, search rules, c.requires.2, c.requires.3) }
 
 pub returns-then-is_path : goal.returns-then-is_path
 returns-then-is_path c =

@@ -1,10 +1,15 @@
--- `ax25_address::alias::same_call` meets its contract.
+-- `ax25_address::alias::same_call` meets its contract: a call with nothing but its text is known by it.
 -- Assumes nothing.
-use mathlib.Core.Path.{ap₂, ◌∙◌}
-use Rattle.laws.specs.Text.{same}
-use Rattle.ax25_token.proofs.CallLaws.{text_front}
+use mathlib.Core.Path.{◌∙◌}
+use borrow.Author.Tests.{ne_eqb}
+use Rattle.ax25_address.proofs.AliasLaws.{same_bytes, other_length}
 use Rattle.ax25_address.proofs.SliceLaws.{same_is}
 use Rattle.ax25_address.proofs.alias.same_call.Goals as goal
 
-pub returns : goal.returns
-returns c = c.eq.ensures ∙ same_is _ _ ∙ ap₂ same (text_front c.args.c) (text_front c.args.d)
+pub returns-then-c-d : goal.returns-then-c-d
+returns-then-c-d c =
+    let a = c.args in
+    c.eq.ensures ∙ same_is _ _ ∙ same_bytes a.c a.d c.requires.0 c.requires.1 c.if-c-d.true
+
+pub returns-else-c-d : goal.returns-else-c-d
+returns-else-c-d c = ne_eqb _ _ c.if-c-d.false ∙ other_length c.args.c c.args.d c.requires.0 c.requires.1 c.if-c-d.false
