@@ -307,6 +307,7 @@ impl Tallies {
     }
 
     // One more is answered.
+    #[tactic(auto, using(crate::proofs::TallyLaws::room))]
     fn count(mut self, answer: Push) -> Tallies
         requires { is_full self ≡ false }
         ensures { result ≡ tallied (told_of answer []) self }
