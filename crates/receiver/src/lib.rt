@@ -273,7 +273,7 @@ impl Joiner {
 
 impl Tallies {
     // All are 0.
-    const NONE: Tallies = Tallies {
+    pub const NONE: Tallies = Tallies {
         offered: 0,
         more: 0,
         done: 0,
