@@ -4,12 +4,10 @@ use mathlib.Core.Path.{◌≡◌, refl, sym, ap, ap₂, ◌∙◌}
 use mathlib.Core.Bool.{Bool, true, false, true≢false}
 use mathlib.Core.List.{List, [], ◌∷◌, map}
 use Rattle.std.proofs.Common.{Some}
-use Prim.Native.Nat.{ℕ, zero, suc, ◌+◌, ◌≤◌, ◌<◌}
-use native.Mathlib.Nat.{not-suc-le-zero, le_of_suc-le-suc}
-use native.Mathlib.Numerals.{add-one}
+use Prim.Native.Nat.{ℕ, zero, suc, ◌<◌}
 use native.Mathlib.Omega.{arith}
-use lib.ListN.{length, get_or, set, drop}
-use borrow.Author.Tests.{ltb-false, lt-ltb}
+use lib.ListN.{length, get_or, set}
+use borrow.Author.Tests.{ltb-false}
 use Rattle.laws.specs.Bits.{num}
 use Rattle.laws.proofs.Cases.{by_test, pick_true, pick_false}
 use Rattle.receiver.specs.Stored.{flag}

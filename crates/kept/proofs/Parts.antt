@@ -1,10 +1,10 @@
 -- The 5,000 bytes of a slot among the lent bytes, where those of one slot are written.
 -- Assumes nothing.
 use mathlib.Core.Path.{◌≡◌, refl, sym, ap, ◌∙◌}
-use mathlib.Core.List.{List, [], ◌∷◌, ◌++◌, append-nil}
+use mathlib.Core.List.{List, [], ◌∷◌, ◌++◌}
 use Prim.Native.Nat.{ℕ, suc, ◌+◌, ◌-◌, ◌*◌, ◌≤◌, ◌<◌}
 use native.Mathlib.Omega.{arith}
-use lib.ListN.{length, take, drop, set, length-drop, drop_of_length-le}
+use lib.ListN.{length, take, drop, set, length-drop}
 use lib.Seq.{sets, sets-eq, take_at, length-take-le, drop-set-lt, drop-set-add, take-set-le}
 use Rattle.laws.proofs.Cases.{by_le}
 use Rattle.laws.proofs.ListLaws.{drop_stored}

@@ -10,7 +10,7 @@ use Rattle.refusals.specs.Outcome.{Outcome, answer, outcome_of}
 use Rattle.kept.specs.declared.Keeping.{Keeping}
 use Rattle.kept.specs.declared.Slot.{Slot}
 use Rattle.kept.specs.Keep.{with_slot, kept_at}
-use Rattle.kept.specs.Told.{to_slot, to_keeping, to_keeping_with}
+use Rattle.kept.specs.Told.{to_keeping, to_keeping_with}
 use Rattle.kept.proofs.Calls.{keep_is, keep_fits, keep_name}
 use Rattle.kept.proofs.Flags.{slot_kept}
 use Rattle.kept.proofs.Kept.keep.Goals as goal

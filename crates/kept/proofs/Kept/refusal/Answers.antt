@@ -11,9 +11,6 @@ use Rattle.kept.proofs.Checks.{refusal_on, refusal_end}
 use Rattle.kept.proofs.NoSlot.{no_slot}
 use Rattle.kept.proofs.Kept.refusal.Goals as goal
 
-pub loop-slot-init : goal.loop-slot-init
-loop-slot-init c = omega arith
-
 pub loop-slot-preserved : goal.loop-slot-preserved
 loop-slot-preserved c =
     let slots = c.args.self.slots in
