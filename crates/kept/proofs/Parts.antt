@@ -4,8 +4,8 @@ use mathlib.Core.Path.{◌≡◌, refl, sym, ap, ◌∙◌}
 use mathlib.Core.List.{List, [], ◌∷◌, ◌++◌}
 use Prim.Native.Nat.{ℕ, suc, ◌+◌, ◌-◌, ◌*◌, ◌≤◌, ◌<◌}
 use native.Mathlib.Omega.{arith}
-use lib.ListN.{length, take, drop, set, length-drop}
-use lib.Seq.{sets, sets-eq, take_at, length-take-le, drop-set-lt, drop-set-add, take-set-le}
+use lib.ListN.{length, take, drop, set}
+use lib.Seq.{sets, sets-eq, take_at, drop-set-lt, drop-set-add, take-set-le}
 use Rattle.laws.proofs.Cases.{by_le}
 use Rattle.laws.proofs.ListLaws.{drop_stored}
 use Rattle.kept.specs.Keep.{start_of, part_of}
@@ -40,9 +40,6 @@ module _ (lent store : List ℕ) (i : ℕ) (whole : length store ≡ 5000) where
       by_le (suc j) i
       (λ h. part_sets (j * 5000) 5000 (i * 5000) lent store (omega arith))
       (λ h. let g : i < j = omega (arith, n) in ap (take 5000) (drop_sets (j * 5000) (i * 5000) lent store (omega arith)))
-
-pub length_part : (lent : List ℕ) (i : ℕ) → length lent ≡ 40000 → i < 8 → length (part_of lent i) ≡ 5000
-length_part lent i size h = length-take-le 5000 (drop (i * 5000) lent) (omega (arith, length-drop (i * 5000) lent))
 
 -- a copy to the front of a list
 pub front_copied : (l vs ys : List ℕ) → ys ≡ vs → length vs ≤ length l → ys ++ drop (length vs) l ≡ sets l 0 vs

@@ -1,9 +1,9 @@
 -- The first place of what passes a test.
 -- Assumes nothing.
 use mathlib.Core.Path.{◌≡◌, refl, sym, ap, ◌∙◌}
-use mathlib.Core.Bool.{Bool, true, false, ◌||◌, not, cond, true≢false, false≢true}
+use mathlib.Core.Bool.{Bool, true, false, ◌||◌, not, cond}
 use mathlib.Core.List.{List, [], ◌∷◌}
-use Rattle.std.proofs.Common.{Option, None, Some}
+use Rattle.std.proofs.Common.{None, Some}
 use Rattle.std.proofs.lemmas.Option.{none-some, same_Some}
 use Prim.Native.Nat.{ℕ, zero, suc, ◌+◌, ◌<◌}
 use native.Mathlib.Nat.{not-suc-le-zero, le_of_suc-le-suc}
@@ -14,8 +14,7 @@ use lib.ListN.{length, get_or}
 use Rattle.std.specs.List.{list_any, position_or_len}
 use Rattle.laws.specs.Pick.{pick}
 use Rattle.laws.proofs.Cases.{by_test, by_le, pick_true, pick_false}
-use Rattle.std.specs.Option.{is_some}
-use Rattle.kept.specs.Keep.{first_from, or_else}
+use Rattle.kept.specs.Keep.{first_from}
 use Rattle.kept.specs.Told.{is_place}
 
 -- a place within a list needs no default
@@ -78,13 +77,3 @@ any_place p i (x ∷ l) =
     by_test (p x)
     (λ t. ap (λ (b : Bool). b || list_any p l) t ∙ ap is_place (sym (pick_true (Some i) (first_from p (suc i) l) t)))
     (λ t. ap (λ (b : Bool). b || list_any p l) t ∙ any_place p (suc i) l ∙ ap is_place (sym (pick_false (Some i) (first_from p (suc i) l) t)))
-
--- ---- the first place, and the second where there is no first
-
-pub or_else_some : {A : Type 0} (o other : Option A) → is_some o ≡ true → o ≡ or_else o other
-or_else_some None other e = absurd (false≢true e)
-or_else_some (Some i) other e = refl
-
-pub or_else_none : {A : Type 0} (o other : Option A) → is_some o ≡ false → other ≡ or_else o other
-or_else_none None other e = refl
-or_else_none (Some i) other e = absurd (true≢false e)
