@@ -101,20 +101,12 @@ fn call(receiver: Reassembler, space: &mut [u8], text: &[u8]) -> Step {
 // Reads a push or a join and makes it.
 fn hear(receiver: Reassembler, space: &mut [u8], what: &[u8], answer: &[u8]) -> Step {
     let mut data = io::large_buffer();
-    let call = call_of(what, &mut data);
-    if !call.good {
+    let Some(call) = call_of(what, &mut data) else {
         return bad(receiver);
-    }
-    let size = call.size;
+    };
     let kind = piece(what, 0, b':');
-    take_in(
-        receiver,
-        space,
-        kind,
-        &data[0..size],
-        call.n as usize,
-        answer,
-    )
+    let data = &data[..call.size];
+    take_in(receiver, space, kind, data, call.n as usize, answer)
 }
 
 // Makes a push or a join.

@@ -17,7 +17,9 @@ use Rattle.laws.proofs.ListLaws.{take_sets}
 use Rattle.laws.proofs.TrimLaws.{between_below, between_yes, between_above}
 use Rattle.std.proofs.Common.{None, Some, Result, Ok, Err}
 use Rattle.std.specs.List.{list_all}
-use Rattle.std.specs.Option.{is_some}
+use Rattle.std.proofs.Common.{rules}
+use Rattle.std.specs.Option.{IfSome, is_some}
+use Rattle.std.specs.Result.{result_ok}
 use Rattle.texts.specs.Hex.{hex_value, digit_value, is_hex, bytes_of, read_of, left_by}
 use Rattle.texts.specs.declared.hex.HexError.{HexError}
 use Rattle.texts.specs.declared.hex.HexError.TheVariants.{NoDigit, Odd, TooLong}
@@ -162,6 +164,11 @@ read_back room s n e =
     let k : n ≡ length s / 2 = grind (arith, e ∙ pick_true _ _ t ∙ pick_false _ _ u ∙ pick_false _ _ v) in
     (omega (arith, k, bytes_length s), omega (arith, bytes_length s, ltb-false room (length s / 2) v)))))
     (λ t. cc (pick_false _ _ t))
+
+-- no more are read than there is room for
+pub read_few : (room : ℕ) (s : List ℕ) (r : Result ℕ HexError) → r ≡ read_of room s → IfSome (result_ok r) (λ n. n ≤ room)
+read_few room s (Ok n) e = let k = read_back room s n e in omega (arith, k.0, k.1)
+read_few room s (Err x) e = search rules
 
 pub read_front : (room : ℕ) (s out t : List ℕ) (r : Result ℕ HexError) (n : ℕ) → r ≡ read_of room s → t ≡ left_by r s out → r ≡ Ok n → length out ≡ room → take n t ≡ bytes_of s
 unfolding left_by
