@@ -1,2 +1,3 @@
+pub mod FlagLaws
 pub mod FrameLaws
 pub mod PartLaws

@@ -1,9 +1,10 @@
 -- The cases of the receiver's definitions, one law for each.
 -- Assumes nothing.
-use mathlib.Core.Path.{◌≡◌, ap}
+use mathlib.Core.Path.{◌≡◌, sym, ap, ◌∙◌}
 use mathlib.Core.Bool.{true, false}
 use mathlib.Core.List.{List}
-use Prim.Native.Nat.{ℕ, zero, suc, ◌+◌, ◌-◌, ◌≤◌, ◌<◌}
+use Rattle.std.proofs.Common.{Option, None, Some}
+use Prim.Native.Nat.{ℕ, zero, suc, ◌+◌, ◌-◌, ◌≤◌, ◌<◌, max}
 use native.Mathlib.Omega.{arith}
 use lib.Bits.{bit_and}
 use lib.ListN.{length, get_or, take, drop, set, length-set}
@@ -14,10 +15,13 @@ use Rattle.laws.specs.Pick.{pick}
 use Rattle.laws.proofs.Cases.{by_test, by_le, by_eq}
 use Rattle.crc.specs.Crc.{crc_bits}
 use Rattle.refusals.specs.Limits.{mask_ok}
-use Rattle.receiver.specs.Join.{answered, emptied, ended, finish_of, base_of, headed, grown, grow_of, started, accept_of, refusal_of, join_of}
+use Rattle.refusals.specs.Outcome.{number}
+use Rattle.refusals.specs.declared.Refusal.{Refusal}
+use Rattle.refusals.specs.declared.Refusal.TheVariants.{Command, TooLong, Short, BadCall, Format, Output, NotDecoded, Field, Mask, Empty, FirstByte, Count, Number, Fragment, Marker, Control, State, Name, Kept, Tally}
+use Rattle.receiver.specs.Join.{code_of, answered, turned_away, emptied, ended, finish_of, base_of, headed, grown, grow_of, started, accept_of, refusal_of, join_of}
 use Rattle.receiver.specs.declared.Joiner.{Joiner}
 use Rattle.receiver.specs.declared.Cause.TheVariants.{NoFragment, Overflow, Limit, Check}
-use Rattle.receiver.specs.declared.Push.TheVariants.{Refused, Dropped, More, Done}
+use Rattle.receiver.specs.declared.Push.TheVariants.{Dropped, More, Done}
 
 -- ---- the first byte
 
@@ -44,6 +48,11 @@ base_pos (suc held) = rw (base_some (suc held) (λ e. omega arith)) (omega arith
 pub base_le : (held n : ℕ) → held ≤ n → 0 < n → base_of held ≤ n
 base_le zero n k p = rw (base_none zero (omega arith)) p
 base_le (suc held) n k p = rw (base_some (suc held) (λ e. omega arith)) k
+
+-- a tail goes after what is held, or after the first byte
+pub base_max : (held : ℕ) → max held 1 ≡ base_of held
+base_max zero = rw (base_none zero (omega arith)) (omega arith)
+base_max (suc held) = rw (base_some (suc held) (λ e. omega arith)) (omega arith)
 
 pub length_headed : (held : ℕ) (s : List ℕ) (b : ℕ) → length (headed held s b) ≡ length s
 length_headed zero s b = rw (headed_none zero s b (omega arith)) (length-set s 0 b)
@@ -117,6 +126,53 @@ module _ (r : Joiner) (s f : List ℕ) (n : ℕ) where
 
 -- ---- the refusals of a state
 
+-- a refusal has a number, and none is 0
+number_some : (e : Refusal) → 0 < number e
+number_some Command = omega arith
+number_some TooLong = omega arith
+number_some Short = omega arith
+number_some BadCall = omega arith
+number_some Format = omega arith
+number_some Output = omega arith
+number_some NotDecoded = omega arith
+number_some Field = omega arith
+number_some Mask = omega arith
+number_some Empty = omega arith
+number_some FirstByte = omega arith
+number_some Count = omega arith
+number_some Number = omega arith
+number_some Fragment = omega arith
+number_some Marker = omega arith
+number_some Control = omega arith
+number_some State = omega arith
+number_some Name = omega arith
+number_some Kept = omega arith
+number_some Tally = omega arith
+
+-- the refusal that a call found, as its number
+module _ {x : Option Refusal} {n : ℕ} (code : code_of x ≡ n) where
+  pub code_is : {e : Refusal} → x ≡ Some e → n ≡ number e
+  code_is h = sym code ∙ ap code_of h
+
+  pub code_not : {e : Refusal} → x ≡ Some e → n ≡ 0 → ⊥
+  code_not {e = e} h z = omega (arith, code_is h, number_some e)
+
+  pub code_none : x ≡ None → n ≡ 0
+  code_none h = sym code ∙ ap code_of h
+
+module _ (r : Joiner) (size : ℕ) where
+  pub refusal_store : (size ≡ 5000 → ⊥) → refusal_of r size ≡ 17
+  unfolding refusal_of pick
+  refusal_store h = simp (ne_eqb _ _ h)
+
+  pub refusal_held : size ≡ 5000 → 5000 < r.held → refusal_of r size ≡ 17
+  unfolding refusal_of pick
+  refusal_held e h = simp (eq-eqb _ _ e, lt-ltb _ _ h)
+
+  pub refusal_few : size ≡ 5000 → r.held ≤ 5000 → 255 < r.nfrag → refusal_of r size ≡ 17
+  unfolding refusal_of pick
+  refusal_few e l h = simp (eq-eqb _ _ e, le-ltb _ _ l, lt-ltb _ _ h)
+
 -- no refusal: what the state and the store are then
 pub record Sound (r : Joiner) (size : ℕ) : Type 0 where
   pub store : size ≡ 5000
@@ -151,7 +207,7 @@ refused_none r size e =
 -- ---- `join`
 
 module _ (r : Joiner) (s f : List ℕ) (n : ℕ) where
-  pub join_refused : (refusal_of r (length s) ≡ 0 → ⊥) → join_of r s f n ≡ answered (Refused (refusal_of r (length s))) r s
+  pub join_refused : (refusal_of r (length s) ≡ 0 → ⊥) → join_of r s f n ≡ turned_away (refusal_of r (length s)) r s
   unfolding join_of pick
   join_refused h =
       let p : 0 < refusal_of r (length s) = omega (arith, h) in

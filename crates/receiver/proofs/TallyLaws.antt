@@ -3,24 +3,28 @@
 use mathlib.Core.Path.{◌≡◌, refl, sym, ap, ◌∙◌}
 use mathlib.Core.Bool.{Bool, true, false, ◌||◌}
 use mathlib.Core.List.{List, []}
+use Rattle.std.proofs.Common.{Option, Some, Ok}
 use Prim.Native.Nat.{ℕ, ◌+◌, ◌≤◌, ◌<◌}
 use native.Mathlib.Nat.{add-zero}
 use native.Mathlib.Omega.{arith}
 use lib.Bits.{bit_or, or_add_and, and_le_l, and_le_r}
 use lib.ListN.{length}
-use lib.Dec.{leb}
-use borrow.Author.Tests.{lt-ltb, lt-leb, leb-false}
+use lib.Dec.{leb, eqb}
+use borrow.Author.Tests.{lt-ltb, le-leb, lt-leb, leb-false, eq-eqb, ne_eqb}
 use Rattle.laws.specs.Bits.{num}
 use Rattle.laws.specs.Pick.{pick}
-use Rattle.laws.proofs.Cases.{or_left, or_right}
+use Rattle.laws.proofs.Cases.{by_eq, or_left, or_right}
 use Rattle.refusals.specs.Limits.{field_ok}
-use Rattle.receiver.specs.Join.{refused, dropped, more, done, heard_of, answered, joined_after, refusal_of, join_of}
+use Rattle.refusals.specs.Outcome.{number}
+use Rattle.refusals.specs.declared.Refusal.{Refusal}
+use Rattle.receiver.specs.Join.{code_of, refused, dropped, more, done, told_of, turned_away, joined_after, refusal_of, join_of}
 use Rattle.receiver.specs.Push.{push_of}
 use Rattle.receiver.specs.Tally.{largest, is_full, tallied, after, with, counted, join_tallied, push_tallied}
+use Rattle.receiver.proofs.JoinLaws.{code_is, code_not}
 use Rattle.receiver.specs.declared.Cause.TheVariants.{WrongLength, NoFragment, Overflow, Limit, Check}
 use Rattle.receiver.specs.declared.Joined.{Joined}
 use Rattle.receiver.specs.declared.Push.{Push}
-use Rattle.receiver.specs.declared.Push.TheVariants.{Refused, Dropped, More, Done}
+use Rattle.receiver.specs.declared.Push.TheVariants.{Dropped, More, Done}
 use Rattle.receiver.specs.declared.Reassembler.{Reassembler}
 use Rattle.receiver.specs.declared.Tallies.{Tallies}
 
@@ -32,9 +36,16 @@ or_above_l a b = omega (arith, or_add_and a b, and_le_r a b)
 or_above_r : (a b : ℕ) → b ≤ bit_or a b
 or_above_r a b = omega (arith, or_add_and a b, and_le_l a b)
 
-or_assoc : (a b c : Bool) → ((a || b) || c) ≡ (a || (b || c))
-or_assoc true b c = refl
-or_assoc false b c = refl
+or_none : (b : Bool) → (b || false) ≡ b
+or_none true = refl
+or_none false = refl
+
+-- a number of 64 bits is the largest, or below it
+top_test : (n : ℕ) → n ≤ largest → eqb n largest ≡ leb largest n
+top_test n h =
+    by_eq n largest
+    (λ e. let l : largest ≤ n = omega arith in rw (eq-eqb n largest e, le-leb largest n l))
+    (λ e. let l : n < largest = omega arith in rw (ne_eqb n largest e, lt-leb largest n l))
 
 module _ (t : Tallies) where
   -- where 27 does not apply each tally takes one more
@@ -112,13 +123,15 @@ module _ (t : Tallies) where
         lt-leb largest t.check (omega (arith, or_above_r nvl t.check)),
       )
 
-  -- the eight tests in three groups
-  pub any_full :
-      ((((leb largest t.offered || leb largest t.more) || leb largest t.done) || (leb largest t.wrong_length || leb largest t.no_fragment))
-      || ((leb largest t.overflow || leb largest t.limit) || leb largest t.check))
+  -- the eight tests, of numbers of 64 bits
+  pub any_full : t.offered ≤ largest → t.more ≤ largest → t.done ≤ largest → t.wrong_length ≤ largest → t.no_fragment ≤ largest
+      → t.overflow ≤ largest → t.limit ≤ largest → t.check ≤ largest
+      → (eqb t.offered largest || (eqb t.more largest || (eqb t.done largest || (eqb t.wrong_length largest || (eqb t.no_fragment largest
+      || (eqb t.overflow largest || (eqb t.limit largest || (eqb t.check largest || false))))))))
       ≡ is_full t
   unfolding is_full
-  any_full = simp or_assoc
+  any_full o m d w n v l k =
+      simp (top_test _ o, top_test _ m, top_test _ d, top_test _ w, top_test _ n, top_test _ v, top_test _ l, top_test _ k, or_none)
 
   -- ---- one more answer
 
@@ -162,35 +175,41 @@ module _ (t : Tallies) where
   tallied_check = simp add-zero
 
   -- the store does not matter to a tally
-  pub tallied_any : (a : Push) (s : List ℕ) → tallied (heard_of a s) t ≡ tallied (heard_of a []) t
+  pub tallied_any : (a : Push) (s : List ℕ) → tallied (told_of a s) t ≡ tallied (told_of a []) t
   unfolding tallied num
-  tallied_any (Refused n) s = refl
   tallied_any (Dropped c) s = refl
   tallied_any More s = refl
   tallied_any (Done n) s = refl
 
-  pub after_counted : (p : Joined) (s : List ℕ) (u : Tallies) → u ≡ tallied (heard_of p.answer []) t
-      → after (record { answer = p.answer; receiver = with p.state u }) s ≡ counted t (joined_after p s)
+  pub after_counted : (p : Joined) (s : List ℕ) (u : Tallies) → u ≡ tallied (told_of p.answer []) t
+      → after (record { answer = Ok p.answer; receiver = with p.state u }) s ≡ counted t (joined_after p s)
   after_counted p s u e =
-      ap (λ (x : Tallies). after (record { answer = p.answer; receiver = with p.state x }) s) (e ∙ sym (tallied_any p.answer s))
+      ap (λ (x : Tallies). after (record { answer = Ok p.answer; receiver = with p.state x }) s) (e ∙ sym (tallied_any p.answer s))
 
 -- ---- the calls
 
 module _ (r : Reassembler) (s f : List ℕ) (n : ℕ) where
-  pub join_refuses : (refusal_of r.state (length s) ≡ 0 → ⊥) → join_tallied r s f n ≡ answered (Refused (refusal_of r.state (length s))) r s
+  join_refuses : (refusal_of r.state (length s) ≡ 0 → ⊥) → join_tallied r s f n ≡ turned_away (refusal_of r.state (length s)) r s
   unfolding join_tallied pick
   join_refuses h =
       let p : 0 < refusal_of r.state (length s) = omega (arith, h) in
       rw (lt-ltb 0 (refusal_of r.state (length s)) p)
 
-  pub push_refuses : (refusal_of r.state (length s) ≡ 0 → ⊥) → push_tallied r s f n ≡ answered (Refused (refusal_of r.state (length s))) r s
+  push_refuses : (refusal_of r.state (length s) ≡ 0 → ⊥) → push_tallied r s f n ≡ turned_away (refusal_of r.state (length s)) r s
   unfolding push_tallied pick
   push_refuses h =
       let p : 0 < refusal_of r.state (length s) = omega (arith, h) in
       rw (lt-ltb 0 (refusal_of r.state (length s)) p)
 
+  -- the refusal that the state has
+  pub join_turned : {x : Option Refusal} {e : Refusal} → code_of x ≡ refusal_of r.state (length s) → x ≡ Some e → join_tallied r s f n ≡ turned_away (number e) r s
+  join_turned code h = rw (← code_is code h) (join_refuses (code_not code h))
+
+  pub push_turned : {x : Option Refusal} {e : Refusal} → code_of x ≡ refusal_of r.state (length s) → x ≡ Some e → push_tallied r s f n ≡ turned_away (number e) r s
+  push_turned code h = rw (← code_is code h) (push_refuses (code_not code h))
+
   module _ (e : refusal_of r.state (length s) ≡ 0) where
-    pub join_full : is_full r.tallies ≡ true → join_tallied r s f n ≡ answered (Refused 27) r s
+    pub join_full : is_full r.tallies ≡ true → join_tallied r s f n ≡ turned_away 27 r s
     unfolding join_tallied pick
     join_full t = simp (e, t)
 
@@ -198,11 +217,11 @@ module _ (r : Reassembler) (s f : List ℕ) (n : ℕ) where
     unfolding join_tallied pick
     join_counts t = simp (e, t)
 
-    pub push_refuses_field : field_ok n ≡ false → push_tallied r s f n ≡ answered (Refused 8) r s
+    pub push_refuses_field : field_ok n ≡ false → push_tallied r s f n ≡ turned_away 8 r s
     unfolding push_tallied pick
     push_refuses_field o = simp (e, o)
 
-    pub push_full : field_ok n ≡ true → is_full r.tallies ≡ true → push_tallied r s f n ≡ answered (Refused 27) r s
+    pub push_full : field_ok n ≡ true → is_full r.tallies ≡ true → push_tallied r s f n ≡ turned_away 27 r s
     unfolding push_tallied pick
     push_full o t = simp (e, o, t)
 

@@ -1,17 +1,19 @@
 -- The receiver without its tallies: document 01, "kiss.rs, receiver". What it does with a fragment, by the rules in order.
 -- Assumes nothing.
-use Rattle.std.specs.Prelude.{Bool, false, ◌||◌, not, List, ℕ, ◌+◌, ◌-◌, length, get_or, take, drop, set, ltb, leb, eqb}
+use Rattle.std.specs.Prelude.{Bool, false, ◌||◌, not, Option, None, Some, Result, Ok, Err, List, ℕ, ◌+◌, ◌-◌, length, get_or, take, drop, set, ltb, leb, eqb}
 use Rattle.std.specs.Int.Bits.{bit_and}
 use Rattle.std.proofs.lemmas.List.Edits.{sets}
 use Rattle.laws.specs.Pick.{pick}
 use Rattle.crc.specs.Crc.{crc_bits}
 use Rattle.refusals.specs.Limits.{mask_ok}
+use Rattle.refusals.specs.Outcome.{number}
+use Rattle.refusals.specs.declared.Refusal.{Refusal}
 use Rattle.receiver.specs.declared.Joiner.{Joiner}
 use Rattle.receiver.specs.declared.Joined.{Joined}
 use Rattle.receiver.specs.declared.Cause.{Cause}
 use Rattle.receiver.specs.declared.Cause.TheVariants.{NoFragment, Overflow, Limit, Check}
 use Rattle.receiver.specs.declared.Push.{Push}
-use Rattle.receiver.specs.declared.Push.TheVariants.{Refused, Dropped, More, Done}
+use Rattle.receiver.specs.declared.Push.TheVariants.{Dropped, More, Done}
 
 -- ---- answers
 
@@ -23,12 +25,16 @@ pub data Heard : Type 0 where
   more : Heard
   done : ℕ → List ℕ → Heard
 
--- document 01's number and values for each case of `Push`, with the store as the call leaves it
-abbrev pub heard_of : Push → List ℕ → Heard
-heard_of (Refused n) store = refused n
-heard_of (Dropped c) store = dropped c
-heard_of More store = more
-heard_of (Done n) store = done n (take n store)
+-- document 01's values for each case of `Push`, with the store as the call leaves it
+abbrev pub told_of : Push → List ℕ → Heard
+told_of (Dropped c) store = dropped c
+told_of More store = more
+told_of (Done n) store = done n (take n store)
+
+-- the same, or document 01's number of a refusal
+abbrev pub heard_of : Result Push Refusal → List ℕ → Heard
+heard_of (Err e) store = refused (number e)
+heard_of (Ok a) store = told_of a store
 
 -- what a call answers, and the receiver and the store that it leaves; the receiver is of type R, without or with its tallies
 pub record After (R : Type 0) : Type 0 where
@@ -38,7 +44,11 @@ pub record After (R : Type 0) : Type 0 where
 
 -- an answer, with the receiver and the store that are left
 abbrev pub answered : {R : Type 0} → Push → R → List ℕ → After R
-answered a r store = record { heard = heard_of a store; receiver = r; store = store }
+answered a r store = record { heard = told_of a store; receiver = r; store = store }
+
+-- the number of a refusal, with the receiver and the store as they were
+abbrev pub turned_away : {R : Type 0} → ℕ → R → List ℕ → After R
+turned_away n r store = record { heard = refused n; receiver = r; store = store }
 
 -- what a call returned, with the store as it leaves it
 abbrev pub joined_after : Joined → List ℕ → After Joiner
@@ -117,6 +127,11 @@ accept_of r store f n =
 
 -- ---- the answer of `join`
 
+-- the number of a refusal, 0 for none
+abbrev pub code_of : Option Refusal → ℕ
+code_of None = 0
+code_of (Some e) = number e
+
 -- the first refusal of a state with a store of so many bytes, 0 where there is none. 17: "store not 5,000 bytes, or state with held over
 -- 5,000 or fragments over 255"; then 9
 unfoldable pub refusal_of : Joiner → ℕ → ℕ
@@ -127,6 +142,6 @@ refusal_of r size =
 -- 17, 9; "n = 0 or beyond f: Dropped, no change"; else the fragment
 unfoldable pub join_of : Joiner → List ℕ → List ℕ → ℕ → After Joiner
 join_of r store f n =
-    pick (ltb 0 (refusal_of r (length store))) (answered (Refused (refusal_of r (length store))) r store)
+    pick (ltb 0 (refusal_of r (length store))) (turned_away (refusal_of r (length store)) r store)
     (pick (eqb n 0 || ltb (length f) n) (answered (Dropped NoFragment) r store)
     (accept_of r store f n))

@@ -7,8 +7,6 @@ use Rattle.refusals.specs.Outcome.{Outcome, refused, answer}
 use Rattle.receiver.specs.declared.Joiner.{Joiner}
 use Rattle.receiver.specs.declared.Tallies.{Tallies}
 use Rattle.receiver.specs.declared.Reassembler.{Reassembler}
-use Rattle.receiver.specs.declared.Fresh.{Fresh}
-use Rattle.receiver.specs.declared.Fresh.TheVariants.{Refused, Ready}
 
 -- nothing held, no fragments, no overflow
 abbrev pub fresh_joiner : ℕ → Joiner
@@ -26,8 +24,3 @@ fresh_of mask = record { state = fresh_joiner mask; tallies = no_tallies }
 -- "A new receiver 9."
 unfoldable pub new_of : ℕ → Outcome Reassembler
 new_of mask = pick (mask_ok mask) (answer (fresh_of mask)) (refused 9)
-
--- document 01's number and value for each case of `Fresh`
-abbrev pub made_of : Fresh → Outcome Reassembler
-made_of (Refused n) = refused n
-made_of (Ready r) = answer r

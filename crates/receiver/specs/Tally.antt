@@ -4,12 +4,11 @@ use Rattle.std.specs.Prelude.{Bool, true, false, ◌||◌, not, List, ℕ, ◌+�
 use Rattle.laws.specs.Bits.{num}
 use Rattle.laws.specs.Pick.{pick}
 use Rattle.refusals.specs.Limits.{field_ok}
-use Rattle.receiver.specs.Join.{Heard, refused, dropped, more, done, After, answered, reset_of, refusal_of, join_of}
+use Rattle.receiver.specs.Join.{Heard, refused, dropped, more, done, heard_of, After, turned_away, reset_of, refusal_of, join_of}
 use Rattle.receiver.specs.Push.{push_of}
 use Rattle.receiver.specs.declared.Cause.{Cause}
 use Rattle.receiver.specs.declared.Cause.TheVariants.{WrongLength, NoFragment, Overflow, Limit, Check}
 use Rattle.receiver.specs.declared.Joiner.{Joiner}
-use Rattle.receiver.specs.declared.Push.TheVariants.{Refused}
 use Rattle.receiver.specs.declared.Pushed.{Pushed}
 use Rattle.receiver.specs.declared.Reassembler.{Reassembler}
 use Rattle.receiver.specs.declared.Tallies.{Tallies}
@@ -88,7 +87,7 @@ tallied h t =
 
 -- what a call returned, with the store as it leaves it
 abbrev pub after : Pushed → List ℕ → After Reassembler
-after p store = answered p.answer p.receiver store
+after p store = record { heard = heard_of p.answer store; receiver = p.receiver; store = store }
 
 -- a receiver of its two parts
 abbrev pub with : Joiner → Tallies → Reassembler
@@ -101,16 +100,16 @@ counted t a = record { heard = a.heard; receiver = with a.receiver (tallied a.he
 -- the answer of `join`: 17, 9, 27; else as without tallies, and counted
 unfoldable pub join_tallied : Reassembler → List ℕ → List ℕ → ℕ → After Reassembler
 join_tallied r store f n =
-    pick (ltb 0 (refusal_of r.state (length store))) (answered (Refused (refusal_of r.state (length store))) r store)
-    (pick (is_full r.tallies) (answered (Refused 27) r store)
+    pick (ltb 0 (refusal_of r.state (length store))) (turned_away (refusal_of r.state (length store)) r store)
+    (pick (is_full r.tallies) (turned_away 27 r store)
     (counted r.tallies (join_of r.state store f n)))
 
 -- the answer of `push`: 17, 9, 8, 27; else as without tallies, and counted
 unfoldable pub push_tallied : Reassembler → List ℕ → List ℕ → ℕ → After Reassembler
 push_tallied r store f field =
-    pick (ltb 0 (refusal_of r.state (length store))) (answered (Refused (refusal_of r.state (length store))) r store)
-    (pick (not (field_ok field)) (answered (Refused 8) r store)
-    (pick (is_full r.tallies) (answered (Refused 27) r store)
+    pick (ltb 0 (refusal_of r.state (length store))) (turned_away (refusal_of r.state (length store)) r store)
+    (pick (not (field_ok field)) (turned_away 8 r store)
+    (pick (is_full r.tallies) (turned_away 27 r store)
     (counted r.tallies (push_of r.state store f field))))
 
 -- "Reset keeps the tallies"

@@ -1,6 +1,6 @@
--- `receiver::fragment_length` meets its contract. The field is gone through from its end: behind i there is no 14.
+-- `receiver::fragment_length` meets its contract. The field is gone through from its end: after i there is no 14.
 -- Assumes nothing.
-use mathlib.Core.Path.{◌≡◌, refl, sym, ap, ◌∙◌}
+use mathlib.Core.Path.{◌≡◌, sym, ap, ◌∙◌}
 use mathlib.Core.List.{List, [], ◌∷◌, ◌++◌}
 use Prim.Native.Nat.{ℕ, suc, ◌+◌, ◌-◌, ◌<◌}
 use native.Mathlib.Omega.{arith}
@@ -47,22 +47,19 @@ none i l e = rw e
 pub returns-then-f-field-eq1 : goal.returns-then-f-field-eq1
 returns-then-f-field-eq1 c = sym (length_full _ _ c.if-f-field-eq1.true)
 
-pub loop-i-init : goal.loop-i-init
-loop-i-init c = (omega arith, refl)
-
 pub returns-then-f-i-eq-TERMINATOR : goal.returns-then-f-i-eq-TERMINATOR
 returns-then-f-i-eq-TERMINATOR c =
     let a = c.args in
     let i = c.loop-i.i in
-    sym (length_last _ _ c.if-f-field-eq1.false ∙ sym c.loop-i.invariant.1 ∙ hit (i - 1) i a.f.now (omega arith) (omega arith) c.if-f-i-eq-TERMINATOR.true)
+    sym (length_last _ _ c.if-f-field-eq1.false ∙ sym c.loop-i.invariant ∙ hit (i - 1) i a.f.now (omega arith) (omega arith) c.if-f-i-eq-TERMINATOR.true)
 
 pub loop-i-preserved : goal.loop-i-preserved
 loop-i-preserved c =
     let a = c.args in
     let i = c.loop-i.i in
-    (omega arith, sym (miss (i - 1) i a.f.now (omega arith) (omega arith) c.if-f-i-eq-TERMINATOR.false) ∙ c.loop-i.invariant.1)
+    sym (miss (i - 1) i a.f.now (omega arith) (omega arith) c.if-f-i-eq-TERMINATOR.false) ∙ c.loop-i.invariant
 
 pub returns : goal.returns
 returns c =
     let a = c.args in
-    sym (length_last _ _ c.if-f-field-eq1.false ∙ sym c.loop-i.invariant.1 ∙ none c.loop-i.i a.f.now (omega arith))
+    sym (length_last _ _ c.if-f-field-eq1.false ∙ sym c.loop-i.invariant ∙ none c.loop-i.i a.f.now (omega arith))

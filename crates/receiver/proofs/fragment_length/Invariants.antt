@@ -1,13 +1,9 @@
--- `receiver::fragment_length` meets its contract. The field is gone through from its end: behind i there is no 14.
+-- `receiver::fragment_length` meets its contract. The field is gone through from its end: after i there is no 14.
 -- Assumes nothing.
 use mathlib.Core.Path.{◌≡◌}
-use Prim.Native.Nat.{◌≤◌}
 use lib.ListN.{take}
 use Rattle.receiver.specs.Push.{last_from}
 use Rattle.receiver.proofs.fragment_length.Given as goal
 
 abbrev pub invariant-loop-i : goal.invariant-loop-i
-invariant-loop-i l = (l.i ≤ l.field) × (last_from 0 0 (take l.i l.f) ≡ last_from 0 0 (take l.field l.f))
-
-abbrev pub decreases-loop-i : goal.decreases-loop-i
-decreases-loop-i l = l.i
+invariant-loop-i l = last_from 0 0 (take l.i l.f) ≡ last_from 0 0 (take l.field l.f)

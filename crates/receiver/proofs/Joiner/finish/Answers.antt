@@ -1,17 +1,16 @@
 -- `Joiner::finish` meets its contract: each way out is a case of the definition.
 -- Assumes nothing.
 use mathlib.Core.Path.{sym, ◌∙◌}
-use native.Mathlib.Omega.{arith}
-use lib.ListN.{length-set}
-use lib.Seq.{length-take-le}
-use Rattle.receiver.proofs.JoinLaws.{finish_good, finish_bad}
+use Rattle.receiver.proofs.JoinLaws.{finish_one, finish_good, finish_bad}
 use Rattle.receiver.proofs.Joiner.finish.Goals as goal
+use Rattle.receiver.proofs.Joiner.finish.Goals.{then-self-lt2-via-then-self-lt2, then-self-lt2-via-else-self-lt2+then-crc_bits-self}
 
-pub slice_bounds-crc_bits-end-2 : goal.slice_bounds-crc_bits-end-2
-slice_bounds-crc_bits-end-2 c = sym (length-take-le _ _ (simp length-set (omega arith)))
-
-pub returns-then-crc_bits-count : goal.returns-then-crc_bits-count
-returns-then-crc_bits-count c = sym (finish_good _ _ _ (omega arith) (sym c.crc_bits.ensures ∙ c.if-crc_bits-count.true))
+pub returns-then-self-lt2 : goal.returns-then-self-lt2
+returns-then-self-lt2 c =
+    elim c.then-self-lt2.branch [
+      | then-self-lt2-via-then-self-lt2 w ↦ sym (finish_one _ _ _ w.if-self-lt2.true)
+      | then-self-lt2-via-else-self-lt2+then-crc_bits-self w ↦ sym (finish_good _ _ _ w.if-self-lt2.false (sym w.crc_bits.ensures ∙ w.if-crc_bits-self.true))
+    ]
 
 pub returns : goal.returns
-returns c = sym (finish_bad _ _ _ (omega arith) (λ e. c.if-crc_bits-count.false (c.crc_bits.ensures ∙ e)))
+returns c = sym (finish_bad _ _ _ c.if-self-lt2.false (λ e. c.if-crc_bits-self.false (c.crc_bits.ensures ∙ e)))

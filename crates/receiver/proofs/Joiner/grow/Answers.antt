@@ -1,10 +1,17 @@
 -- `Joiner::grow` meets its contract: each way out is a case of the definition.
 -- Assumes nothing.
-use mathlib.Core.Path.{sym, ◌∙◌}
+use mathlib.Core.Path.{◌≡◌, sym, ◌∙◌}
+use mathlib.Core.List.{List}
 use Prim.Native.Nat.{ℕ, ◌+◌, ◌-◌, ◌≤◌, ◌<◌}
 use native.Mathlib.Omega.{arith}
-use Rattle.receiver.proofs.JoinLaws.{grow_long, grow_more, grow_last, base_le, base_pos}
+use lib.ListN.{length}
+use lib.Seq.{sets}
+use borrow.Rule.Slice.PartMut.{put_mid}
+use Rattle.frame.proofs.PartLaws.{put_sets}
+use Rattle.receiver.specs.Join.{base_of}
+use Rattle.receiver.proofs.JoinLaws.{grow_many, grow_long, grow_more, grow_last, base_max}
 use Rattle.receiver.proofs.Joiner.grow.Goals as goal
+use Rattle.receiver.proofs.Joiner.grow.Goals.{then-self-ge-RX_MAX_FRAGMENTS-via-then-self-ge-RX_MAX_FRAGMENTS, then-self-ge-RX_MAX_FRAGMENTS-via-else-self-ge-RX_MAX_FRAGMENTS+then-base-tail}
 
 -- the test by what is left of the store, as a test of held plus tail
 too_long : (base n : ℕ) → base ≤ 5000 → 5000 - base < n → 5000 < base + n
@@ -13,29 +20,34 @@ too_long base n l h = omega arith
 long_enough : (base n : ℕ) → base ≤ 5000 → n ≤ 5000 - base → base + n ≤ 5000
 long_enough base n l h = omega arith
 
-pub overflow_sub-base : goal.overflow_sub-base
-overflow_sub-base c = (let fact : c.base_of-base.result ≤ 5000 = rw c.base_of-base.ensures (base_le c.args.self.held 5000 (omega arith) (omega arith)) in fact)
+-- the tail is copied to its place
+stored : (base : ℕ) (s part tail : List ℕ) → part ≡ tail → base + length tail ≤ length s
+    → put_mid base (base + length tail - base) s part ≡ sets s base tail
+stored base s part tail e h = rw e (put_sets base (base + length tail - base) s tail (omega arith) (omega arith))
 
-pub returns-then-base-tail : goal.returns-then-base-tail
-returns-then-base-tail c =
-    sym (grow_long _ _ _ _ (rw c.base_of-base.ensures at (too_long _ _ ((let fact : c.base_of-base.result ≤ 5000 = rw c.base_of-base.ensures (base_le c.args.self.held 5000 (omega arith) (omega arith)) in fact)) c.if-base-tail.true)))
-
-pub copy-end-requires : goal.copy-end-requires
-copy-end-requires c =
-    omega (arith, (let fact : c.base_of-base.result ≤ 5000 = rw c.base_of-base.ensures (base_le c.args.self.held 5000 (omega arith) (omega arith)) in fact), c.well_formed)
+pub returns-then-self-ge-RX_MAX_FRAGMENTS : goal.returns-then-self-ge-RX_MAX_FRAGMENTS
+returns-then-self-ge-RX_MAX_FRAGMENTS c =
+    let a = c.args in
+    let base : c.max-base.result ≡ base_of a.self.held = c.max-base.ensures ∙ base_max a.self.held in
+    rw c.reset.ensures
+    (elim c.then-self-ge-RX_MAX_FRAGMENTS.branch [
+      | then-self-ge-RX_MAX_FRAGMENTS-via-then-self-ge-RX_MAX_FRAGMENTS w ↦ sym (grow_many _ _ _ _ w.if-self-ge-RX_MAX_FRAGMENTS.true)
+      | then-self-ge-RX_MAX_FRAGMENTS-via-else-self-ge-RX_MAX_FRAGMENTS+then-base-tail w ↦ sym (grow_long _ _ _ _ (rw base at (too_long _ _ (omega (arith, c.max-base.ensures)) w.if-base-tail.true)))
+    ])
 
 pub returns-then-first-ge128 : goal.returns-then-first-ge128
 returns-then-first-ge128 c =
-    rw (c.copy-end.ensures.stored, c.copy-end.ensures.next_is, c.head.ensures, c.base_of-base.ensures)
-    (sym (grow_more _ _ _ _ (omega arith) (rw c.base_of-base.ensures at (long_enough _ _ ((let fact : c.base_of-base.result ≤ 5000 = rw c.base_of-base.ensures (base_le c.args.self.held 5000 (omega arith) (omega arith)) in fact)) c.if-base-tail.false)) c.if-first-ge128.true))
-
-pub finish-requires : goal.finish-requires
-finish-requires c =
-    let q : 0 < c.base_of-base.result = rw c.base_of-base.ensures (base_pos c.args.self.held) in
-    omega (arith, q, (let fact : c.base_of-base.result ≤ 5000 = rw c.base_of-base.ensures (base_le c.args.self.held 5000 (omega arith) (omega arith)) in fact), c.head.auto.store, c.copy-end.auto.out, c.copy-end.ensures.next_is, c.if-base-tail.false)
+    let a = c.args in
+    let base : c.max-base.result ≡ base_of a.self.held = c.max-base.ensures ∙ base_max a.self.held in
+    let copied = stored c.max-base.result c.head.new.store c.copy_from_slice.new.self a.tail.now c.copy_from_slice.ensures.after (omega (arith, c.head.auto.store)) in
+    rw (copied, c.head.ensures, base)
+    (sym (grow_more _ _ _ _ c.if-self-ge-RX_MAX_FRAGMENTS.false (rw base at (long_enough _ _ (omega (arith, c.max-base.ensures)) c.if-base-tail.false)) c.if-first-ge128.true))
 
 pub returns : goal.returns
 returns c =
+    let a = c.args in
+    let base : c.max-base.result ≡ base_of a.self.held = c.max-base.ensures ∙ base_max a.self.held in
+    let copied = stored c.max-base.result c.head.new.store c.copy_from_slice.new.self a.tail.now c.copy_from_slice.ensures.after (omega (arith, c.head.auto.store)) in
     c.finish.ensures
-    ∙ rw (c.copy-end.ensures.stored, c.copy-end.ensures.next_is, c.head.ensures, c.base_of-base.ensures)
-    (sym (grow_last _ _ _ _ (omega arith) (rw c.base_of-base.ensures at (long_enough _ _ ((let fact : c.base_of-base.result ≤ 5000 = rw c.base_of-base.ensures (base_le c.args.self.held 5000 (omega arith) (omega arith)) in fact)) c.if-base-tail.false)) c.if-first-ge128.false))
+    ∙ rw (copied, c.head.ensures, base)
+    (sym (grow_last _ _ _ _ c.if-self-ge-RX_MAX_FRAGMENTS.false (rw base at (long_enough _ _ (omega (arith, c.max-base.ensures)) c.if-base-tail.false)) c.if-first-ge128.false))

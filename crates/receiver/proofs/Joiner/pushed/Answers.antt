@@ -2,13 +2,8 @@
 -- Assumes nothing.
 use mathlib.Core.Path.{sym, ◌∙◌}
 use native.Mathlib.Omega.{arith}
-use Rattle.refusals.proofs.LimitLaws.{field_high}
 use Rattle.receiver.proofs.PushLaws.{push_length, push_on}
 use Rattle.receiver.proofs.Joiner.pushed.Goals as goal
-
-pub overflow_add-field : goal.overflow_add-field
-overflow_add-field c =
-    omega (arith, field_high c.args.field c.requires.1)
 
 pub returns-then-f-field : goal.returns-then-f-field
 returns-then-f-field c =

@@ -6,4 +6,4 @@ use Rattle.receiver.proofs.Tallies.counted.Goals as goal
 pub returns : goal.returns
 returns c store =
     let a = c.args in
-    after_counted a.self a.joined store c.count-tallies.result c.count-tallies.ensures
+    after_counted a.self a.joined store c.count.result c.count.ensures

@@ -1,11 +1,14 @@
 -- `Tallies::full` meets its contract.
 -- Assumes nothing.
-use mathlib.Core.Path.{sym}
+use mathlib.Core.Path.{sym, ◌∙◌}
+use native.Mathlib.Omega.{arith}
 use Rattle.receiver.proofs.TallyLaws.{none_full, any_full}
 use Rattle.receiver.proofs.Tallies.full.Goals as goal
 
-pub returns-then-first-last-lt-LARGEST : goal.returns-then-first-last-lt-LARGEST
-returns-then-first-last-lt-LARGEST c = sym (none_full _ c.if-first-last-lt-LARGEST.true)
+pub returns-then-first-last-lt18446744073709551615 : goal.returns-then-first-last-lt18446744073709551615
+returns-then-first-last-lt18446744073709551615 c = sym (none_full _ c.if-first-last-lt18446744073709551615.true)
 
 pub returns : goal.returns
-returns c = any_full _
+returns c =
+    c.contains.ensures.value
+    ∙ any_full c.args.self (omega arith) (omega arith) (omega arith) (omega arith) (omega arith) (omega arith) (omega arith) (omega arith)
