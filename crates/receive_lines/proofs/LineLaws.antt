@@ -31,7 +31,6 @@ use Rattle.texts.specs.Say.{line_room, spelled_of, unread_line, read_or}
 use Rattle.texts.specs.Show.{shown}
 use Rattle.texts.specs.declared.hex.HexError.{HexError}
 use Rattle.texts.proofs.BackLaws.{above, before_past, line_end}
-use Rattle.texts.proofs.SayLaws.{unread_by}
 use Rattle.monitor.specs.Monitor.{monitor_of}
 use Rattle.receive_lines.specs.Line.{readable_of, done_text, decoded_text, heard_text, line_text, left_by, line_left}
 
@@ -96,10 +95,9 @@ module _ (mended : Bool) (field number : ℕ) (r : Reassembler) (store line : Li
   line_none h = pick_true _ _ (eq-eqb (length line) 0 h)
 
   module _ (some : length line ≡ 0 → ⊥) (q : Result ℕ HexError) (is : q ≡ read_of line_room line) where
-    pub line_unread : ((n : ℕ) → q ≡ Ok n → ⊥) → line_text mended field number r store line ≡ unread_line number q
-    unfolding line_text
-    line_unread other =
-        pick_false _ _ (ne_eqb (length line) 0 some) ∙ rw (← is) (unread_by number _ q other)
+    pub line_unread : (x : HexError) → q ≡ Err x → line_text mended field number r store line ≡ unread_line number q
+    unfolding line_text read_or
+    line_unread x e = pick_false _ _ (ne_eqb (length line) 0 some) ∙ rw (← is, e)
 
     pub line_heard : (n : ℕ) → q ≡ Ok n → line_text mended field number r store line ≡ heard_text mended (push_tallied r store (bytes_of line) field).heard
     unfolding line_text read_or
@@ -111,14 +109,9 @@ module _ (field : ℕ) (r : Reassembler) (store line : List ℕ) where
   left_none h = sym (pick_true _ _ (eq-eqb (length line) 0 h))
 
   module _ (some : length line ≡ 0 → ⊥) (q : Result ℕ HexError) (is : q ≡ read_of line_room line) where
-    left_other : (x : Result ℕ HexError) → ((n : ℕ) → x ≡ Ok n → ⊥) → left_by (r, store) (push_tallied r store (bytes_of line) field) x ≡ (r, store)
-    unfolding left_by
-    left_other (Ok n) f = absurd (f n refl)
-    left_other (Err e) f = refl
-
-    pub left_unread : ((n : ℕ) → q ≡ Ok n → ⊥) → (r, store) ≡ line_left field r store line
-    unfolding line_left
-    left_unread other = sym (pick_false _ _ (ne_eqb (length line) 0 some) ∙ rw (← is) (left_other q other))
+    pub left_unread : (x : HexError) → q ≡ Err x → (r, store) ≡ line_left field r store line
+    unfolding line_left left_by
+    left_unread x e = sym (pick_false _ _ (ne_eqb (length line) 0 some) ∙ rw (← is, e))
 
     pub left_heard : (n : ℕ) → q ≡ Ok n → ((push_tallied r store (bytes_of line) field).receiver, (push_tallied r store (bytes_of line) field).store) ≡ line_left field r store line
     unfolding line_left left_by
