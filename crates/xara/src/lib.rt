@@ -355,13 +355,7 @@ pub extern "C" fn xara_build_frame(
 ) -> XaraAnswer
     ensures { (result, out.new) ≡ to_answer_with (into (build_of field «data».now (control_of control) marker) out.old) }
 {
-    XaraAnswer::from(frame::build_frame(
-        field,
-        data,
-        Control::from(control),
-        marker,
-        out,
-    ))
+    XaraAnswer::from(frame::build_frame(field, data, Control::from(control), marker, out))
 }
 
 // A receiver that holds nothing, its tallies 0.

@@ -1,8 +1,6 @@
 -- `xara::xara_count_for_field` meets its contract.
 -- Assumes nothing.
-use borrow.Author.Rules.{rules}
-use mathlib.Core.Path.{sym, ap, ◌∙◌}
-use Rattle.sender.specs.Send.{counted_of}
+use mathlib.Core.Path.{ap, ◌∙◌}
 use Rattle.xara.specs.Told.{to_answer}
 use Rattle.xara.proofs.xara_count_for_field.Goals as goal
 

@@ -1,11 +1,8 @@
 -- `xara::xara_encode` meets its contract.
 -- Assumes nothing.
-use borrow.Author.Rules.{rules}
-use mathlib.Core.Path.{sym, ap, ◌∙◌}
-use Rattle.laws.specs.Pick.{pick}
-use Rattle.kiss.specs.Told.{encoded_of}
+use mathlib.Core.Path.{ap, ◌∙◌}
 use Rattle.xara.specs.Told.{to_encoded_with}
-use Rattle.xara.proofs.ToldLaws.{beside, with_type}
+use Rattle.xara.proofs.ToldLaws.{beside}
 use Rattle.xara.proofs.xara_encode.Goals as goal
 
 pub returns : goal.returns

@@ -1,8 +1,6 @@
 -- `xara::xara_receiver_new` meets its contract.
 -- Assumes nothing.
-use borrow.Author.Rules.{rules}
-use mathlib.Core.Path.{sym, ap, ◌∙◌}
-use Rattle.receiver.specs.New.{made_of}
+use mathlib.Core.Path.{ap, ◌∙◌}
 use Rattle.xara.specs.Told.{to_fresh}
 use Rattle.xara.proofs.xara_receiver_new.Goals as goal
 

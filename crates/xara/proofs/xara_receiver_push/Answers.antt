@@ -1,6 +1,5 @@
 -- `xara::xara_receiver_push` meets its contract.
 -- Assumes nothing.
-use borrow.Author.Rules.{rules}
 use mathlib.Core.Path.{ap, ◌∙◌}
 use Rattle.xara.specs.Told.{to_pushed_with}
 use Rattle.xara.proofs.ToldLaws.{beside}

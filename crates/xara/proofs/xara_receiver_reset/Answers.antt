@@ -1,6 +1,5 @@
 -- `xara::xara_receiver_reset` meets its contract.
 -- Assumes nothing.
-use borrow.Author.Rules.{rules}
 use mathlib.Core.Path.{ap, ◌∙◌}
 use Rattle.receiver.specs.Stored.{stored_of}
 use Rattle.xara.proofs.xara_receiver_reset.Goals as goal
