@@ -182,7 +182,7 @@ module _ (b : List Bool) (at l : ℕ) (c s : List ℕ) (whole : s ≡ base_of c)
 
 -- ---- a hyphen, by how much stands before it
 
-base_less : (c : List ℕ) → hyphened c ≡ true → length (base_of c) < length c
+pub base_less : (c : List ℕ) → hyphened c ≡ true → length (base_of c) < length c
 unfolding hyphened base_of pick
 base_less [] e = absurd (false≢true e)
 base_less (x ∷ c) e = by_test (eqb x 45) (λ q. rw q (omega arith)) (λ q. rw q (suc-le-suc (base_less c (rw q at e))))

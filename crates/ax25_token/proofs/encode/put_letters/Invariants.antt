@@ -15,10 +15,7 @@ use Rattle.ax25_token.specs.Token.{spell}
 use Rattle.ax25_token.proofs.PutLaws.{drop_end, drop_bad, drop_more}
 use Rattle.ax25_token.proofs.encode.put_letters.Given as goal
 
-abbrev pub invariant-loop-i : goal.invariant-loop-i
-invariant-loop-i l =
-    (l.i ≤ length l.c) × (length l.out ≡ length l.initial.out) × (l.p ≡ l.at + l.i * 6)
-    × ((d : List Bool) (r : Option ℕ) → Puts (unpack l.out) l.p (spell (map (cased_of l.up) (drop l.i l.c))) d r → Puts (unpack l.initial.out) l.at (spell (map (cased_of l.up) l.c)) d r)
-
-abbrev pub decreases-loop-i : goal.decreases-loop-i
-decreases-loop-i l = length l.c - l.i
+abbrev pub invariant-loop-x : goal.invariant-loop-x
+invariant-loop-x l =
+    (l.p ≡ l.at + l.x-index * 6)
+    × ((d : List Bool) (r : Option ℕ) → Puts (unpack l.out) l.p (spell (map (cased_of l.up) (drop l.x-index l.c))) d r → Puts (unpack l.initial.out) l.at (spell (map (cased_of l.up) l.c)) d r)
