@@ -98,7 +98,11 @@ fn ssid(c: &[u8], k: usize) -> u64
     requires { k ≡ length (base_of c.now) }
     ensures { result ≡ val_of (behind c.now) }
 {
-    if k < c.len() { bits::vb_val(&c[k + 1..]) } else { 0 }
+    if k < c.len() {
+        bits::vb_val(&c[k + 1..])
+    } else {
+        0
+    }
 }
 
 // A spelled call: the letters before the hyphen, the end, and 4 bits of SSID.

@@ -5,10 +5,10 @@ use native.Mathlib.Omega.{arith}
 use mathlib.Core.Path.{◌≡◌, refl, sym, ap, ◌∙◌}
 use Prim.Native.Nat.{ℕ, ◌+◌, ◌-◌, ◌≤◌, ◌<◌}
 use lib.ListN.{length, length-set}
-use Rattle.std.proofs.Common.{Option, None, Some}
+use Rattle.std.proofs.Common.{Some}
 use Rattle.ax25_token.specs.Call.{pushed}
 use Rattle.ax25_token.specs.Tables.{call_alphabet}
-use Rattle.ax25_token.proofs.CallLaws.{taken_at, Onto}
+use Rattle.ax25_token.proofs.CallLaws.{taken_at}
 use Rattle.ax25_token.proofs.LetterWays.{all, short, blank, more, ends, skips}
 use Rattle.ax25_token.proofs.letters.Goals as goal
 use Rattle.ax25_token.proofs.letters.Goals.{then-v-lt37, else-v-lt37+else-strict}
@@ -57,11 +57,12 @@ loop-preserved c =
     let q = c.in_ok-v.q in
     let told : taken_at _ _ 6 ≡ Some (v, q) = sym c.take_at.ensures ∙ c.in_ok-v.was in
     elim c.if-v-lt37.branch [
-      then-v-lt37 w ↦
+      | then-v-lt37 w ↦
           (let d = ap (pushed (record { bytes = c.loop.bytes; len = c.loop.len })) w.letter.ensures in
-          (omega (arith, w.len-is), omega (arith, ap length w.bytes-is, length-set c.loop.bytes c.loop.len w.letter.result), λ r i. c.loop.invariant.2 r (more _ _ _ _ _ (some_left c.loop-test.true) v q told c.if-v-eq0.false w.if-v-lt37.true _ d r (rw (← less c.args.n c.loop.counter, w.bytes-is, w.len-is) at i)))) |
-      else-v-lt37+else-strict w ↦
-          (omega (arith, w.len-is), omega (arith, ap length w.bytes-is), λ r i. c.loop.invariant.2 r (skips _ _ _ _ _ (some_left c.loop-test.true) v q told w.if-strict.false w.if-v-lt37.false r (rw (← less c.args.n c.loop.counter, w.bytes-is, w.len-is) at i))) ]
+          (omega (arith, w.len-is), omega (arith, ap length w.bytes-is, length-set c.loop.bytes c.loop.len w.letter.result), λ r i. c.loop.invariant.2 r (more _ _ _ _ _ (some_left c.loop-test.true) v q told c.if-v-eq0.false w.if-v-lt37.true _ d r (rw (← less c.args.n c.loop.counter, w.bytes-is, w.len-is) at i))))
+      | else-v-lt37+else-strict w ↦
+          (omega (arith, w.len-is), omega (arith, ap length w.bytes-is), λ r i. c.loop.invariant.2 r (skips _ _ _ _ _ (some_left c.loop-test.true) v q told w.if-strict.false w.if-v-lt37.false r (rw (← less c.args.n c.loop.counter, w.bytes-is, w.len-is) at i)))
+    ]
 
 pub returns : goal.returns
 returns c = c.loop.invariant.2 _ (all _ _ _ _ _ (none_left c.loop-test.false))

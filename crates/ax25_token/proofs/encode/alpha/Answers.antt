@@ -1,11 +1,10 @@
 -- `ax25_token::encode::alpha` meets its contract, by the table's rule.
 -- Assumes nothing.
 use borrow.Author.Rules.{rules}
-use mathlib.Core.Path.{◌≡◌, sym, ap, ◌∙◌}
+use mathlib.Core.Path.{◌≡◌, ap, ◌∙◌}
 use Prim.Native.Nat.{ℕ}
 use lib.Dec.{ltb}
 use lib.ListN.{get_or}
-use Rattle.std.proofs.Common.{Option, None, Some}
 use Rattle.std.specs.Bool.{then_some}
 use Rattle.laws.specs.Pick.{pick}
 use Rattle.laws.proofs.Cases.{by_test}

@@ -1,9 +1,8 @@
 -- `ax25_token::encode::cased` meets its contract.
 -- Assumes nothing.
-use mathlib.Core.Path.{◌≡◌, sym, ap, ◌∙◌}
-use Prim.Native.Nat.{ℕ, ◌-◌, ◌≤◌, ◌<◌}
+use mathlib.Core.Path.{◌≡◌, sym, ◌∙◌}
+use Prim.Native.Nat.{ℕ}
 use native.Mathlib.Omega.{arith}
-use borrow.Author.Tests.{le-leb, lt-leb}
 use Rattle.std.specs.Char.{to_ascii_uppercase}
 use Rattle.laws.specs.Text.{upper}
 use Rattle.laws.proofs.Cases.{by_le}

@@ -1,6 +1,6 @@
 -- `ax25_token::encode::one_of` meets its contract.
 -- Assumes nothing.
-use mathlib.Core.Path.{◌≡◌, refl, sym, ap, ap₂, ◌∙◌}
+use mathlib.Core.Path.{◌≡◌, refl, sym, ◌∙◌}
 use mathlib.Core.Bool.{Bool, true, false, ◌||◌}
 use mathlib.Core.List.{List, [], ◌∷◌}
 use Prim.Native.Nat.{ℕ}
@@ -33,14 +33,16 @@ module _ (c : Joined-same-2) where
   two_is : c.if-same.value ≡ (same t c.args.v.now || same t c.args.w.now)
   two_is =
       elim c.if-same.branch [
-        then-same b ↦ (let e = or_yes (same t c.args.v.now) (same t c.args.w.now) (sym c.same.ensures ∙ b.if-same.true) in cc) |
-        else-same b ↦ (let e = or_no (same t c.args.v.now) (same t c.args.w.now) (sym c.same.ensures ∙ b.if-same.false) in cc) ]
+        | then-same b ↦ (let e = or_yes (same t c.args.v.now) (same t c.args.w.now) (sym c.same.ensures ∙ b.if-same.true) in cc)
+        | else-same b ↦ (let e = or_no (same t c.args.v.now) (same t c.args.w.now) (sym c.same.ensures ∙ b.if-same.false) in cc)
+      ]
 
   three_is : c.if-same-2.value ≡ ((same t c.args.v.now || same t c.args.w.now) || same t c.args.x.now)
   three_is =
       elim c.if-same-2.branch [
-        then-same-2 b ↦ (let e = or_yes (same t c.args.v.now || same t c.args.w.now) (same t c.args.x.now) (sym two_is ∙ b.if-same-2.true) in cc) |
-        else-same-2 b ↦ (let e = or_no (same t c.args.v.now || same t c.args.w.now) (same t c.args.x.now) (sym two_is ∙ b.if-same-2.false) in cc) ]
+        | then-same-2 b ↦ (let e = or_yes (same t c.args.v.now || same t c.args.w.now) (same t c.args.x.now) (sym two_is ∙ b.if-same-2.true) in cc)
+        | else-same-2 b ↦ (let e = or_no (same t c.args.v.now || same t c.args.w.now) (same t c.args.x.now) (sym two_is ∙ b.if-same-2.false) in cc)
+      ]
 
 pub returns-then-same-3 : goal.returns-then-same-3
 returns-then-same-3 c =

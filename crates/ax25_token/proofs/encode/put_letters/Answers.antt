@@ -1,17 +1,9 @@
 -- `ax25_token::encode::put_letters` meets its contract. The invariant: what codes the letters that are left, from here, codes all of them.
 -- Assumes nothing.
-use Rattle.std.proofs.Common.{Option}
 use borrow.Author.Rules.{rules}
-use mathlib.Core.Path.{◌≡◌, refl, sym, ap, ◌∙◌}
-use mathlib.Core.Bool.{Bool}
-use mathlib.Core.List.{List, map}
-use Prim.Native.Nat.{◌+◌, ◌-◌, ◌*◌, ◌≤◌}
+use mathlib.Core.Path.{refl, sym, ap, ◌∙◌}
 use native.Mathlib.Omega.{arith}
-use lib.ListN.{length, drop}
-use Rattle.laws.specs.Bits.{unpack}
-use Rattle.ax25_token.specs.Put.{cased_of, Puts}
 use Rattle.ax25_token.specs.Tables.{alpha_of, letter_codes}
-use Rattle.ax25_token.specs.Token.{spell}
 use Rattle.ax25_token.proofs.PutLaws.{drop_end, drop_bad, drop_more}
 use Rattle.ax25_token.proofs.encode.put_letters.Goals as goal
 

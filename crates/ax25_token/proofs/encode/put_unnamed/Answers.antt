@@ -2,7 +2,6 @@
 -- Assumes nothing.
 use mathlib.Core.Path.{sym, ◌∙◌}
 use Rattle.ax25_token.proofs.NameLaws.{unnamed_plain, unnamed_other}
-use borrow.Author.Rules.{rules}
 use Rattle.ax25_token.proofs.encode.put_unnamed.Goals as goal
 
 pub put_plain-requires : goal.put_plain-requires

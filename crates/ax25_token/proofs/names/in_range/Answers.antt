@@ -15,6 +15,7 @@ returns-else-low-v c =
     let a = c.args in
     let out : in_range a.n.now a.low a.high a.v a.c.now ≡ false =
     elim c.if-low-v.either [
-      inl p ↦ range_low _ _ _ _ _ (sym c.starts.ensures ∙ p.0) p.1 |
-      inr p ↦ range_other _ _ _ _ _ (sym c.starts.ensures ∙ p) ] in
+      | inl p ↦ range_low _ _ _ _ _ (sym c.starts.ensures ∙ p.0) p.1
+      | inr p ↦ range_other _ _ _ _ _ (sym c.starts.ensures ∙ p)
+    ] in
     cc

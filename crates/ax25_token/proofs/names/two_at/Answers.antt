@@ -24,5 +24,6 @@ pub returns : goal.returns
 returns c =
     let a = c.args in
     elim c.if-k-c.branch [
-      then-k-c w ↦ c.from.ensures ∙ ap bool_byte w.from-is ∙ byte_is (eqb (get_or a.c.now a.k 0) 50) |
-      else-k-c w ↦ c.from.ensures ∙ ap bool_byte (w.from-is ∙ not_below a.k (length a.c.now) w.if-k-c.false) ∙ two_past a.c.now a.k w.if-k-c.false ]
+      | then-k-c w ↦ c.from.ensures ∙ ap bool_byte w.from-is ∙ byte_is (eqb (get_or a.c.now a.k 0) 50)
+      | else-k-c w ↦ c.from.ensures ∙ ap bool_byte (w.from-is ∙ not_below a.k (length a.c.now) w.if-k-c.false) ∙ two_past a.c.now a.k w.if-k-c.false
+    ]
