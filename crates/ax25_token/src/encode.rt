@@ -6,7 +6,7 @@ ghost use Rattle.laws.specs.Wrote.{Wrote};
 ghost use Rattle.bits.specs.Val.{val_of};
 ghost use Rattle.ax25_token.specs.Call.{text_of};
 ghost use Rattle.ax25_token.specs.Put.{cased_of, paired_bits, unnamed_bits, unpaired_bits, Puts};
-ghost use Rattle.ax25_token.specs.Tables.{alpha_of, letter_codes, numbered_rows};
+ghost use Rattle.ax25_token.specs.Tables.{alpha_of, numbered_rows};
 ghost use Rattle.ax25_token.specs.Token.{base_of, behind, number_at, numbered_bits, spell, ending, plain_ap, ap_bits, spelled_bits, or_else, token_bits};
 
 use crate::Call;
@@ -14,7 +14,7 @@ use crate::names::{fixed_of, numbered_of, pair_of, two_at};
 use bits_write::push;
 
 // The letter codes of all bytes, sixteen a row, 255 for none: the inverse of CALL_ALPHABET.
-const CODES: [u8; 256] = *b"\
+static CODES: [u8; 256] = *b"\
     \xFF\xFF\xFF\xFF\xFF\xFF\xFF\xFF\xFF\xFF\xFF\xFF\xFF\xFF\xFF\xFF\
     \xFF\xFF\xFF\xFF\xFF\xFF\xFF\xFF\xFF\xFF\xFF\xFF\xFF\xFF\xFF\xFF\
     \x00\xFF\xFF\xFF\xFF\xFF\xFF\xFF\xFF\xFF\xFF\xFF\xFF\xFF\xFF\xFF\
@@ -32,12 +32,11 @@ const CODES: [u8; 256] = *b"\
     \xFF\xFF\xFF\xFF\xFF\xFF\xFF\xFF\xFF\xFF\xFF\xFF\xFF\xFF\xFF\xFF\
     \xFF\xFF\xFF\xFF\xFF\xFF\xFF\xFF\xFF\xFF\xFF\xFF\xFF\xFF\xFF\xFF";
 
-// The code of a letter. The table is lent: each use of the constant would copy it.
-fn alpha(codes: &[u8; 256], x: u8) -> Option<u64>
-    requires { codes.now ≡ letter_codes }
+// The code of a letter.
+fn alpha(x: u8) -> Option<u64>
     ensures { result ≡ alpha_of x }
 {
-    let v = codes[usize::from(x)];
+    let v = CODES[usize::from(x)];
     (v < 37).then_some(u64::from(v))
 }
 
@@ -53,10 +52,9 @@ fn put_letters(c: &[u8], up: bool, out: &mut [u8], at: usize) -> Option<usize>
     requires { (length c.now ≤ 16) × (at < 2 ^ 61) }
     ensures { Puts (unpack out.old) at (spell (map (cased_of up) c.now)) (unpack out.new) result }
 {
-    let codes = &CODES;
     let mut p = at;
     for x in c {
-        let v = alpha(codes, cased(*x, up))?;
+        let v = alpha(cased(*x, up))?;
         p = push(out, p, v, 6);
     }
     Some(p)

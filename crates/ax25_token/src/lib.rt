@@ -22,10 +22,10 @@ pub struct Call {
 }
 
 // CALL_ALPHABET of the source.
-const CALL_ALPHABET: [u8; 37] = *b" ABCDEFGHIJKLMNOPQRSTUVWXYZ0123456789";
+static CALL_ALPHABET: [u8; 37] = *b" ABCDEFGHIJKLMNOPQRSTUVWXYZ0123456789";
 
 // The names of PAIRS, FIXED and NUMBERED, from index 37 on.
-const NAMES: [Call; 15] = [
+static NAMES: [Call; 15] = [
     Call {
         bytes: *b"WIDE            ",
         len: 4,
@@ -101,12 +101,12 @@ pub fn push(c: Call, b: u8) -> Call
     }
 }
 
-// The letter of a code. The alphabet is lent: each use of the constant would copy it.
-fn letter(alphabet: &[u8; 37], v: u64) -> u8
-    requires { (alphabet.now ≡ call_alphabet) × (v < 37) }
+// The letter of a code.
+fn letter(v: u64) -> u8
+    requires { v < 37 }
     ensures { result ≡ get_or call_alphabet v 0 }
 {
-    alphabet[v as usize]
+    CALL_ALPHABET[v as usize]
 }
 
 // At most n letters, up to a blank, behind what the call holds. A code that is no letter ends a strict reading; another skips it.
@@ -114,7 +114,6 @@ fn letters(s: &[u8], at: usize, n: usize, strict: bool, c: Call) -> Option<(Call
     requires { (length s.now < 2 ^ 60) × (c.len + n ≤ 16) }
     ensures { (call_of (unpack s.now) result ≡ behind_call c (read_letters strict n (drop at (unpack s.now)))) × UpTo (c.len + n) result }
 {
-    let alphabet = &CALL_ALPHABET;
     let mut bytes = c.bytes;
     let mut len = c.len;
     let mut p = at;
@@ -125,7 +124,7 @@ fn letters(s: &[u8], at: usize, n: usize, strict: bool, c: Call) -> Option<(Call
             return Some((Call { bytes, len }, p));
         }
         if v < 37 {
-            bytes[len] = letter(alphabet, v);
+            bytes[len] = letter(v);
             len += 1;
         } else if strict {
             return None;
@@ -246,7 +245,7 @@ fn first(i: u64) -> Call
         bytes: [32u8; 16],
         len: 0,
     };
-    push(c, letter(&CALL_ALPHABET, i))
+    push(c, letter(i))
 }
 
 // The call AP.

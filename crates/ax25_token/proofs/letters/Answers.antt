@@ -7,7 +7,6 @@ use Prim.Native.Nat.{ℕ, ◌+◌, ◌-◌, ◌≤◌, ◌<◌}
 use lib.ListN.{length, length-set}
 use Rattle.std.proofs.Common.{Some}
 use Rattle.ax25_token.specs.Call.{pushed}
-use Rattle.ax25_token.specs.Tables.{call_alphabet}
 use Rattle.ax25_token.proofs.CallLaws.{taken_at}
 use Rattle.ax25_token.proofs.LetterWays.{all, short, blank, more, ends, skips}
 use Rattle.ax25_token.proofs.letters.Goals as goal
@@ -39,10 +38,6 @@ returns-then-v-eq0 c =
     let q = c.in_ok-v.q in
     let told : taken_at _ _ 6 ≡ Some (v, q) = sym c.take_at.ensures ∙ c.in_ok-v.was in
     c.loop.invariant.2 _ (blank _ _ _ _ _ (some_left c.loop-test.true) v q told c.if-v-eq0.true _ (all _ _ _ _ _ refl))
-
-pub letter-requires : goal.letter-requires
-unfolding call_alphabet
-letter-requires c = (refl, search rules)
 
 pub returns-then-strict : goal.returns-then-strict
 returns-then-strict c =

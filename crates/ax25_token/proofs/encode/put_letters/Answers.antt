@@ -1,18 +1,14 @@
 -- `ax25_token::encode::put_letters` meets its contract. The invariant: what codes the letters that are left, from here, codes all of them.
 -- Assumes nothing.
 use borrow.Author.Rules.{rules}
-use mathlib.Core.Path.{refl, sym, ap, ◌∙◌}
+use mathlib.Core.Path.{sym, ap, ◌∙◌}
 use native.Mathlib.Omega.{arith}
-use Rattle.ax25_token.specs.Tables.{alpha_of, letter_codes}
+use Rattle.ax25_token.specs.Tables.{alpha_of}
 use Rattle.ax25_token.proofs.PutLaws.{drop_end, drop_bad, drop_more}
 use Rattle.ax25_token.proofs.encode.put_letters.Goals as goal
 
 pub loop-x-init : goal.loop-x-init
 loop-x-init c = (search rules, λ d r h. h)
-
-pub alpha-requires : goal.alpha-requires
-unfolding letter_codes
-alpha-requires c = refl
 
 pub returns-in_err-v : goal.returns-in_err-v
 returns-in_err-v c =
