@@ -179,9 +179,10 @@ fn put_unnamed(c: &[u8], l: usize, out: &mut [u8], at: usize) -> Option<usize>
     ensures { Puts (unpack out.old) at (unnamed_bits l c.now) (unpack out.new) result }
 {
     if plain_ap(c) {
-        return put_plain(c, l, out, at);
+        put_plain(c, l, out, at)
+    } else {
+        put_spelled(c, l, out, at)
     }
-    put_spelled(c, l, out, at)
 }
 
 // A call that no row of PAIRS takes.

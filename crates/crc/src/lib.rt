@@ -117,7 +117,7 @@ fn crc_groups(data: &[u8]) -> u16
     crc_rest(c, &data[data.len() / 128 * 128..])
 }
 
-// The same by the way that is faster for so many.
+// All whole groups of eight bytes, by the way that is faster for so many.
 fn crc_whole(data: &[u8]) -> u16
     ensures { result ≡ crc_from start (take (length «data».now / 8 * 8) «data».now) }
 {
@@ -130,7 +130,7 @@ fn crc_whole(data: &[u8]) -> u16
     }
 }
 
-// The CRC of any bytes.
+// The CRC of any bytes. The last of them go by index: over a slice the compiler unrolls the loop, and 15 bytes take 23.5 ns in place of 19.5.
 pub fn crc16_genibus(data: &[u8]) -> u16
     ensures { result ≡ crc_of «data».now }
 {

@@ -14,7 +14,7 @@ returns-then-plain_ap c =
     let a = c.args in
     rw (unnamed_plain a.l a.c.now (sym c.plain_ap.ensures ∙ c.if-plain_ap.true)) c.put_plain.ensures
 
-pub returns : goal.returns
-returns c =
+pub returns-else-plain_ap : goal.returns-else-plain_ap
+returns-else-plain_ap c =
     let a = c.args in
     rw (unnamed_other a.l a.c.now (sym c.plain_ap.ensures ∙ c.if-plain_ap.false)) c.put_spelled.ensures
