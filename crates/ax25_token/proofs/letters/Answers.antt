@@ -25,9 +25,6 @@ whole n = omega arith
 less : (n i : ℕ) → n - i - 1 ≡ n - (i + 1)
 less n i = omega arith
 
-pub loop-init : goal.loop-init
-loop-init c = (search rules, search rules, λ r i. rw (whole c.args.n) at i)
-
 pub returns-in_err-v : goal.returns-in_err-v
 returns-in_err-v c =
     c.loop.invariant.2 _ (short _ _ _ _ _ (some_left c.loop-test.true) (sym c.take_at.ensures ∙ c.in_err-v.was) _ c.from_residual.ensures)

@@ -7,9 +7,6 @@ use Rattle.ax25_token.specs.Tables.{alpha_of}
 use Rattle.ax25_token.proofs.PutLaws.{drop_end, drop_bad, drop_more}
 use Rattle.ax25_token.proofs.encode.put_letters.Goals as goal
 
-pub loop-x-init : goal.loop-x-init
-loop-x-init c = (search rules, λ d r h. h)
-
 pub returns-in_err-v : goal.returns-in_err-v
 returns-in_err-v c =
     let code = sym (c.alpha.ensures ∙ ap alpha_of c.cased.ensures) ∙ c.in_err-v.was in

@@ -19,11 +19,6 @@ returns-in_default c =
     let a = c.args in
     rw (plain_uncounted a.l a.c.now _ c.numbered_of.ensures.result_value c.in_default.is) c.put_ap.ensures
 
-pub push-requires : goal.push-requires
-push-requires c =
-    let small = small_count _ _ _ _ c.numbered_of.ensures.small_count c.in-Some.is in
-    (omega (arith, small), omega (arith, c.push-p.ensures.value, c.requires.2))
-
 pub returns : goal.returns
 returns c =
     let a = c.args in

@@ -22,10 +22,6 @@ slice_bounds-put_letters-end c =
     let a = c.args in
     omega (arith, base_short a.c.now, c.hyphen-k.ensures, length-take c.hyphen-k.result a.c.now)
 
-pub put_letters-requires : goal.put_letters-requires
-put_letters-requires c =
-    (omega (arith, front_size_lem c.args.c.now _ c.hyphen-k.ensures, c.requires), omega (arith, c.requires))
-
 pub returns-in_err-p : goal.returns-in_err-p
 returns-in_err-p c =
     let hyphen = c.hyphen-k in
@@ -40,9 +36,6 @@ put_end-q-requires c =
     let k = front_size_lem c.args.c.now _ hyphen.ensures in
     let n = letters_size _ _ _ _ _ (take hyphen.result c.args.c.now) _ c.in_ok-p.was letters.ensures in
     omega (arith, n, k, c.requires)
-
-pub ssid-requires : goal.ssid-requires
-ssid-requires c = c.hyphen-k.ensures
 
 pub push-requires : goal.push-requires
 push-requires c =

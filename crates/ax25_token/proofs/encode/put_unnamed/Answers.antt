@@ -4,11 +4,6 @@ use mathlib.Core.Path.{sym, ◌∙◌}
 use Rattle.ax25_token.proofs.NameLaws.{unnamed_plain, unnamed_other}
 use Rattle.ax25_token.proofs.encode.put_unnamed.Goals as goal
 
-pub put_plain-requires : goal.put_plain-requires
-put_plain-requires c =
-    let pre = c.requires in
-    (sym c.plain_ap.ensures ∙ c.if-plain_ap.true, pre.0, pre.1)
-
 pub returns-then-plain_ap : goal.returns-then-plain_ap
 returns-then-plain_ap c =
     let a = c.args in
