@@ -9,7 +9,7 @@ use native.Mathlib.Omega.{arith}
 use lib.ListN.{length, take, drop, get_or, length-drop, get_or-eq_default}
 use lib.Dec.{eqb, ltb, leb}
 use lib.Seq.{take_all, drop-append_seam}
-use borrow.Author.Tests.{leb-true, not-true, le-leb, lt-leb, eq-eqb, ne_eqb}
+use borrow.Author.Tests.{leb-true, not-true, le-leb, lt-leb}
 use Rattle.laws.specs.Bits.{num, bits_of}
 use Rattle.laws.specs.Pick.{pick}
 use Rattle.laws.specs.Text.{ascii, same, is_one_of, starts, later, position}
@@ -250,14 +250,6 @@ module _ (c : List ℕ) (k : ℕ) where
   pub two_past : length c ≤ k → 0 ≡ num (eqb (get_or c k 0) 50)
   unfolding num
   two_past h = rw (get_or-eq_default c 0 h)
-
-  pub two_yes : get_or c k 0 ≡ 50 → 1 ≡ num (eqb (get_or c k 0) 50)
-  unfolding num
-  two_yes e = rw (eq-eqb (get_or c k 0) 50 e)
-
-  pub two_no : (get_or c k 0 ≡ 50 → ⊥) → 0 ≡ num (eqb (get_or c k 0) 50)
-  unfolding num
-  two_no e = rw (ne_eqb (get_or c k 0) 50 e)
 
 -- ---- calls that start with AP and have no hyphen
 

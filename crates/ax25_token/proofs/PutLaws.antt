@@ -2,7 +2,7 @@
 -- Assumes nothing.
 use mathlib.Core.Path.{◌≡◌, refl, sym, ap, subst, ◌∙◌}
 use mathlib.Core.Bool.{Bool, true, false}
-use mathlib.Core.List.{List, [], ◌∷◌, ◌++◌, map, append-nil}
+use mathlib.Core.List.{List, [], ◌∷◌, ◌++◌, map}
 use Rattle.std.proofs.Common.{Option, None, Some}
 use Prim.Native.Nat.{ℕ, suc, ◌+◌, ◌*◌, ◌≤◌, ◌<◌, suc-le-suc}
 use native.Mathlib.Numerals.{add-one}
@@ -13,10 +13,10 @@ use lib.Dec.{eqb}
 use lib.Seq.{drop-cons, length-take-le}
 use Rattle.laws.specs.Bits.{bits_of}
 use Rattle.laws.specs.Pick.{pick, ◌>>=◌}
-use Rattle.laws.specs.Text.{ascii, upper, same, is_one_of, starts}
+use Rattle.laws.specs.Text.{ascii, upper, starts}
 use Rattle.laws.specs.Wrote.{Wrote}
 use Rattle.laws.proofs.Cases.{by_test, by_le, and_left}
-use Rattle.laws.proofs.TextLaws.{eq_same, ne_same, starts_eq, starts_append, starts_short}
+use Rattle.laws.proofs.TextLaws.{starts_short}
 use Rattle.laws.proofs.WroteLaws.{wrote_none, wrote_then}
 use Rattle.ax25_token.specs.Put.{cased_of, Puts}
 use Rattle.ax25_token.specs.Tables.{sym_of, alpha_of}
@@ -182,48 +182,13 @@ module _ (b : List Bool) (at l : ℕ) (c s : List ℕ) (whole : s ≡ base_of c)
 
 -- ---- a hyphen, by how much stands before it
 
-base_less : (c : List ℕ) → hyphened c ≡ true → length (base_of c) < length c
+pub base_less : (c : List ℕ) → hyphened c ≡ true → length (base_of c) < length c
 unfolding hyphened base_of pick
 base_less [] e = absurd (false≢true e)
 base_less (x ∷ c) e = by_test (eqb x 45) (λ q. rw q (omega arith)) (λ q. rw q (suc-le-suc (base_less c (rw q at e))))
-
-module _ (c : List ℕ) (k : ℕ) (e : k ≡ length (base_of c)) where
-  pub hyphen_in : k < length c → hyphened c ≡ true
-  hyphen_in h = by_test (hyphened c) (λ q. q) (λ q. absurd (omega (arith, h, e, ap length (base_plain c q))))
-
-  pub hyphen_out : length c ≤ k → hyphened c ≡ false
-  hyphen_out h = by_test (hyphened c) (λ q. absurd (omega (arith, h, e, base_less c q))) (λ q. q)
 
 pub plain_size : (c : List ℕ) → plain_ap c ≡ true → 2 ≤ length c
 unfolding plain_ap
 plain_size c e =
     by_le 2 (length c) (λ h. h)
     (λ h. absurd (false≢true (sym (starts_short (ascii "AP") c h) ∙ and_left (starts (ascii "AP") c) (not (hyphened c)) e)))
-
--- ---- the same text
-
-pub starts_self : (n : List ℕ) → starts n n ≡ true
-unfolding starts
-starts_self n = by_test (starts n n) (λ e. e) (λ e. absurd (false≢true (sym e ∙ ap (starts n) (sym (append-nil n)) ∙ starts_append n [])))
-
-pub same_starts : (c n : List ℕ) → length c ≡ length n → starts n c ≡ same c n
-same_starts c n h =
-    by_test (starts n c)
-    (λ e. e ∙ sym (eq_same c n (starts_eq n c e ∙ ap (λ (t : List ℕ). n ++ t) (drop_of_length-le c {i = length n} (omega (arith, h))) ∙ append-nil n)))
-    (λ e. e ∙ sym (ne_same c n (λ q. false≢true (sym e ∙ ap (starts n) q ∙ starts_self n))))
-
-pub same_not : (c n : List ℕ) → (length c ≡ length n → ⊥) → false ≡ same c n
-same_not c n h = sym (ne_same c n (λ q. h (ap length q)))
-
-module _ (c n : List ℕ) (ns : List (List ℕ)) where
-  pub one_hit : same c n ≡ true → is_one_of c (n ∷ ns) ≡ true
-  unfolding is_one_of
-  one_hit e = rw e
-
-  pub one_miss : same c n ≡ false → is_one_of c (n ∷ ns) ≡ is_one_of c ns
-  unfolding is_one_of
-  one_miss e = rw e
-
-pub one_last : (c n : List ℕ) → is_one_of c (n ∷ []) ≡ same c n
-unfolding is_one_of
-one_last c n = by_test (same c n) (λ e. rw e) (λ e. rw e)

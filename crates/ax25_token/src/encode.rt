@@ -6,7 +6,7 @@ ghost use Rattle.laws.specs.Wrote.{Wrote};
 ghost use Rattle.bits.specs.Val.{val_of};
 ghost use Rattle.ax25_token.specs.Call.{text_of};
 ghost use Rattle.ax25_token.specs.Put.{cased_of, paired_bits, unnamed_bits, unpaired_bits, Puts};
-ghost use Rattle.ax25_token.specs.Tables.{alpha_of, letter_codes, numbered_rows};
+ghost use Rattle.ax25_token.specs.Tables.{alpha_of, numbered_rows};
 ghost use Rattle.ax25_token.specs.Token.{base_of, behind, number_at, numbered_bits, spell, ending, plain_ap, ap_bits, spelled_bits, or_else, token_bits};
 
 use crate::Call;
@@ -14,7 +14,7 @@ use crate::names::{fixed_of, numbered_of, pair_of, two_at};
 use bits_write::push;
 
 // The letter codes of all bytes, sixteen a row, 255 for none: the inverse of CALL_ALPHABET.
-const CODES: [u8; 256] = *b"\
+static CODES: [u8; 256] = *b"\
     \xFF\xFF\xFF\xFF\xFF\xFF\xFF\xFF\xFF\xFF\xFF\xFF\xFF\xFF\xFF\xFF\
     \xFF\xFF\xFF\xFF\xFF\xFF\xFF\xFF\xFF\xFF\xFF\xFF\xFF\xFF\xFF\xFF\
     \x00\xFF\xFF\xFF\xFF\xFF\xFF\xFF\xFF\xFF\xFF\xFF\xFF\xFF\xFF\xFF\
@@ -32,33 +32,19 @@ const CODES: [u8; 256] = *b"\
     \xFF\xFF\xFF\xFF\xFF\xFF\xFF\xFF\xFF\xFF\xFF\xFF\xFF\xFF\xFF\xFF\
     \xFF\xFF\xFF\xFF\xFF\xFF\xFF\xFF\xFF\xFF\xFF\xFF\xFF\xFF\xFF\xFF";
 
-// The code of a letter. The table is lent: each use of the constant would copy it.
-fn alpha(codes: &[u8; 256], x: u8) -> Option<u64>
-    requires { codes.now ≡ letter_codes }
+// The code of a letter.
+fn alpha(x: u8) -> Option<u64>
     ensures { result ≡ alpha_of x }
 {
-    let i = x as usize;
-    let v = codes[i];
-    if v < 37 {
-        return Some(v as u64);
-    }
-    None
+    let v = CODES[usize::from(x)];
+    (v < 37).then_some(u64::from(v))
 }
 
 // A byte, in upper case where that is asked for.
 pub fn cased(x: u8, up: bool) -> u8
     ensures { result ≡ cased_of up x }
 {
-    if !up {
-        return x;
-    }
-    if x < 97 {
-        return x;
-    }
-    if 122 < x {
-        return x;
-    }
-    x - 32
+    if up { x.to_ascii_uppercase() } else { x }
 }
 
 // The letters, 6 bits each.
@@ -66,30 +52,24 @@ fn put_letters(c: &[u8], up: bool, out: &mut [u8], at: usize) -> Option<usize>
     requires { (length c.now ≤ 16) × (at < 2 ^ 61) }
     ensures { Puts (unpack out.old) at (spell (map (cased_of up) c.now)) (unpack out.new) result }
 {
-    let codes = &CODES;
     let mut p = at;
-    let mut i = 0;
-    while i < c.len() {
-        let v = alpha(codes, cased(c[i], up))?;
+    for x in c {
+        let v = alpha(cased(*x, up))?;
         p = push(out, p, v, 6);
-        i += 1;
     }
     Some(p)
 }
 
-// 6 zero bits behind fewer than l letters.
+// 6 zero bits after fewer than l letters.
 fn put_end(out: &mut [u8], at: usize, n: usize, l: usize) -> usize
     requires { at < 2 ^ 62 }
     ensures wrote { Wrote (unpack out.old) at (ending l n) (unpack out.new) result }
     ensures upper_bound { result ≤ at + 6 }
 {
-    if l <= n {
-        return at;
-    }
-    push(out, at, 0, 6)
+    if n < l { push(out, at, 0, 6) } else { at }
 }
 
-// The AP form: its index, the letters behind AP, and the end.
+// The AP form: its index, the letters after AP, and the end.
 fn put_ap(c: &[u8], l: usize, out: &mut [u8], at: usize) -> Option<usize>
     requires { (2 ≤ length c.now) × (length c.now ≤ 16) × (at < 2 ^ 60) }
     ensures { Puts (unpack out.old) at (ap_bits l c.now) (unpack out.new) result }
@@ -103,25 +83,24 @@ fn put_ap(c: &[u8], l: usize, out: &mut [u8], at: usize) -> Option<usize>
 pub fn hyphen(c: &[u8]) -> usize
     ensures { result ≡ length (base_of c.now) }
 {
-    let mut i = 0;
-    while i < c.len() {
-        if c[i] == b'-' {
+    for (i, x) in c.iter().enumerate() {
+        if *x == b'-' {
             return i;
         }
-        i += 1;
     }
-    i
+    c.len()
 }
 
-// The number behind a hyphen at k, or 0.
+// The number after a hyphen at k, or 0.
 fn ssid(c: &[u8], k: usize) -> u64
     requires { k ≡ length (base_of c.now) }
     ensures { result ≡ val_of (behind c.now) }
 {
-    if c.len() <= k {
-        return 0;
+    if k < c.len() {
+        bits::vb_val(&c[k + 1..])
+    } else {
+        0
     }
-    bits::vb_val(&c[k + 1..])
 }
 
 // A spelled call: the letters before the hyphen, the end, and 4 bits of SSID.
@@ -130,7 +109,7 @@ fn put_spelled(c: &[u8], l: usize, out: &mut [u8], at: usize) -> Option<usize>
     ensures { Puts (unpack out.old) at (spelled_bits l c.now) (unpack out.new) result }
 {
     let k = hyphen(c);
-    let p = put_letters(&c[0..k], true, out, at)?;
+    let p = put_letters(&c[..k], true, out, at)?;
     let q = put_end(out, p, k, l);
     Some(push(out, q, ssid(c, k), 4))
 }
@@ -139,56 +118,28 @@ fn put_spelled(c: &[u8], l: usize, out: &mut [u8], at: usize) -> Option<usize>
 pub fn starts(c: &[u8], w: &[u8]) -> bool
     ensures { result ≡ starts w.now c.now }
 {
-    if c.len() < w.len() {
-        return false;
-    }
-    let mut i = 0;
-    while i < w.len() {
-        if w[i] != c[i] {
-            return false;
-        }
-        i += 1;
-    }
-    true
+    c.starts_with(w)
 }
 
 // A call that starts with AP and has no hyphen.
 fn plain_ap(c: &[u8]) -> bool
     ensures { result ≡ plain_ap c.now }
 {
-    if starts(c, b"AP") {
-        if hyphen(c) < c.len() {
-            return false;
-        }
-        return true;
-    }
-    false
+    starts(c, b"AP") && hyphen(c) == c.len()
 }
 
 // The same bytes.
 pub fn same(c: &[u8], n: &[u8]) -> bool
     ensures { result ≡ same c.now n.now }
 {
-    if c.len() != n.len() {
-        return false;
-    }
-    starts(c, n)
+    c == n
 }
 
 // One of four texts.
 pub(crate) fn one_of(c: &[u8], v: &[u8], w: &[u8], x: &[u8], y: &[u8]) -> bool
     ensures { result ≡ is_one_of c.now (v.now ∷ w.now ∷ x.now ∷ y.now ∷ []) }
 {
-    if same(c, v) {
-        return true;
-    }
-    if same(c, w) {
-        return true;
-    }
-    if same(c, x) {
-        return true;
-    }
-    same(c, y)
+    same(c, v) || same(c, w) || same(c, x) || same(c, y)
 }
 
 // The number in n bytes from a place on, as far as there are any.
@@ -196,13 +147,8 @@ pub(crate) fn number_at(c: &[u8], a: usize, n: usize) -> u64
     requires { (a ≤ 16) × (n ≤ 16) }
     ensures { result ≡ number_at c.now a n }
 {
-    if c.len() <= a {
-        return 0;
-    }
-    if c.len() <= a + n {
-        return bits::vb_val(&c[a..]);
-    }
-    bits::vb_val(&c[a..a + n])
+    let end = c.len().min(a + n);
+    if a < end { bits::vb_val(&c[a..end]) } else { 0 }
 }
 
 // A call with a row of PAIRS: the index, the digit as one bit, and w bits of the number. The name has k bytes.
@@ -233,9 +179,10 @@ fn put_unnamed(c: &[u8], l: usize, out: &mut [u8], at: usize) -> Option<usize>
     ensures { Puts (unpack out.old) at (unnamed_bits l c.now) (unpack out.new) result }
 {
     if plain_ap(c) {
-        return put_plain(c, l, out, at);
+        put_plain(c, l, out, at)
+    } else {
+        put_spelled(c, l, out, at)
     }
-    put_spelled(c, l, out, at)
 }
 
 // A call that no row of PAIRS takes.
@@ -265,9 +212,7 @@ pub fn put_call(c: Call, l: usize, out: &mut [u8], at: usize) -> Option<usize>
     requires { (c.len ≤ 16) × (at < 2 ^ 60) }
     ensures { Puts (unpack out.old) at (token_bits l (text_of c)) (unpack out.new) result }
 {
-    let bytes = c.bytes;
-    let n = c.len;
-    token_encode(&bytes[0..n], l, out, at)
+    token_encode(&c.bytes[..c.len], l, out, at)
 }
 
 // A call that is held starts with w.
@@ -275,7 +220,5 @@ pub fn call_starts(c: Call, w: &[u8]) -> bool
     requires { c.len ≤ 16 }
     ensures { result ≡ starts w.now (text_of c) }
 {
-    let bytes = c.bytes;
-    let n = c.len;
-    starts(&bytes[0..n], w)
+    starts(&c.bytes[..c.len], w)
 }

@@ -22,28 +22,71 @@ pub struct Call {
 }
 
 // CALL_ALPHABET of the source.
-const CALL_ALPHABET: [u8; 37] = *b" ABCDEFGHIJKLMNOPQRSTUVWXYZ0123456789";
+static CALL_ALPHABET: [u8; 37] = *b" ABCDEFGHIJKLMNOPQRSTUVWXYZ0123456789";
 
-// The names of PAIRS, FIXED and NUMBERED, from index 37 on, and their lengths.
-const NAMES: [[u8; 16]; 15] = [
-    *b"WIDE            ",
-    *b"PNW             ",
-    *b"MW              ",
-    *b"OR              ",
-    *b"WA              ",
-    *b"ALL             ",
-    *b"CQ              ",
-    *b"APIN            ",
-    *b"APWW            ",
-    *b"APDR            ",
-    *b"APBPQ1          ",
-    *b"APJYC1          ",
-    *b"APOPYT          ",
-    *b"APU25N          ",
-    *b"APVARA          ",
+// The names of PAIRS, FIXED and NUMBERED, from index 37 on.
+static NAMES: [Call; 15] = [
+    Call {
+        bytes: *b"WIDE            ",
+        len: 4,
+    },
+    Call {
+        bytes: *b"PNW             ",
+        len: 3,
+    },
+    Call {
+        bytes: *b"MW              ",
+        len: 2,
+    },
+    Call {
+        bytes: *b"OR              ",
+        len: 2,
+    },
+    Call {
+        bytes: *b"WA              ",
+        len: 2,
+    },
+    Call {
+        bytes: *b"ALL             ",
+        len: 3,
+    },
+    Call {
+        bytes: *b"CQ              ",
+        len: 2,
+    },
+    Call {
+        bytes: *b"APIN            ",
+        len: 4,
+    },
+    Call {
+        bytes: *b"APWW            ",
+        len: 4,
+    },
+    Call {
+        bytes: *b"APDR            ",
+        len: 4,
+    },
+    Call {
+        bytes: *b"APBPQ1          ",
+        len: 6,
+    },
+    Call {
+        bytes: *b"APJYC1          ",
+        len: 6,
+    },
+    Call {
+        bytes: *b"APOPYT          ",
+        len: 6,
+    },
+    Call {
+        bytes: *b"APU25N          ",
+        len: 6,
+    },
+    Call {
+        bytes: *b"APVARA          ",
+        len: 6,
+    },
 ];
-
-const LENGTHS: [usize; 15] = [4, 3, 2, 2, 2, 3, 2, 4, 4, 4, 6, 6, 6, 6, 6];
 
 // The call with a byte more.
 pub fn push(c: Call, b: u8) -> Call
@@ -51,18 +94,19 @@ pub fn push(c: Call, b: u8) -> Call
     ensures { (result ≡ pushed c b) × (result.len ≡ c.len + 1) }
 {
     let mut bytes = c.bytes;
-    let n = c.len;
-    bytes[n] = b;
-    Call { bytes, len: n + 1 }
+    bytes[c.len] = b;
+    Call {
+        bytes,
+        len: c.len + 1,
+    }
 }
 
-// The letter of a code. The alphabet is lent: each use of the constant would copy it.
-fn letter(alphabet: &[u8; 37], v: u64) -> u8
-    requires { (alphabet.now ≡ call_alphabet) × (v < 37) }
+// The letter of a code.
+fn letter(v: u64) -> u8
+    requires { v < 37 }
     ensures { result ≡ get_or call_alphabet v 0 }
 {
-    let i = v as usize;
-    alphabet[i]
+    CALL_ALPHABET[v as usize]
 }
 
 // At most n letters, up to a blank, behind what the call holds. A code that is no letter ends a strict reading; another skips it.
@@ -70,7 +114,6 @@ fn letters(s: &[u8], at: usize, n: usize, strict: bool, c: Call) -> Option<(Call
     requires { (length s.now < 2 ^ 60) × (c.len + n ≤ 16) }
     ensures { (call_of (unpack s.now) result ≡ behind_call c (read_letters strict n (drop at (unpack s.now)))) × UpTo (c.len + n) result }
 {
-    let alphabet = &CALL_ALPHABET;
     let mut bytes = c.bytes;
     let mut len = c.len;
     let mut p = at;
@@ -81,11 +124,9 @@ fn letters(s: &[u8], at: usize, n: usize, strict: bool, c: Call) -> Option<(Call
             return Some((Call { bytes, len }, p));
         }
         if v < 37 {
-            bytes[len] = letter(alphabet, v);
+            bytes[len] = letter(v);
             len += 1;
-            continue;
-        }
-        if strict {
+        } else if strict {
             return None;
         }
     }
@@ -110,9 +151,8 @@ pub fn suffixed(c: Call, v: u64) -> Call
         return c;
     }
     let mut bytes = c.bytes;
-    let n = c.len;
-    bytes[n] = 45;
-    let first = n + 1;
+    bytes[c.len] = b'-';
+    let first = c.len + 1;
     if v < 10 {
         bytes[first] = (48 + v) as u8;
         return Call {
@@ -145,9 +185,10 @@ fn pair_at(s: &[u8], at: usize, w: usize, mended: bool) -> Two
     ensures { (result.first ≡ took 1 (unpack s.now) at) × (result.second ≡ took_wide mended w (unpack s.now) (after_of result.first at)) }
 {
     if mended {
-        return bit_take_at(s, at, w);
+        bit_take_at(s, at, w)
+    } else {
+        bit_text_at(s, at, w)
     }
-    bit_text_at(s, at, w)
 }
 
 // A digit, 1 or 2, and a number of w bits.
@@ -176,11 +217,7 @@ fn name(i: u64) -> Call
     requires { (37 ≤ i) × (i ≤ 51) }
     ensures { (result ≡ appended empty (form_name (form_of i))) × (result.len ≤ 6) }
 {
-    let k = (i - 37) as usize;
-    Call {
-        bytes: NAMES[k],
-        len: LENGTHS[k],
-    }
+    NAMES[(i - 37) as usize]
 }
 
 // The token of an index from 37 to 51.
@@ -208,7 +245,7 @@ fn first(i: u64) -> Call
         bytes: [32u8; 16],
         len: 0,
     };
-    push(c, letter(&CALL_ALPHABET, i))
+    push(c, letter(i))
 }
 
 // The call AP.

@@ -10,34 +10,25 @@ ghost use Rattle.ax25_token.specs.Token.{hyphened, pair_bits, pairs_bits, fixed_
 
 use crate::encode::{number_at, one_of, same, starts};
 
-// What stands behind WIDE in WIDE_TOKENS.
+// What stands after WIDE in WIDE_TOKENS.
 fn wide_end(t: &[u8]) -> bool
     ensures { result ≡ is_one_of t.now wide_ends }
 {
-    if one_of(t, b"1-1", b"1", b"1-2", b"1-3") {
-        return true;
-    }
-    one_of(t, b"2", b"2-1", b"2-2", b"2-3")
+    one_of(t, b"1-1", b"1", b"1-2", b"1-3") || one_of(t, b"2", b"2-1", b"2-2", b"2-3")
 }
 
 // One of WIDE_TOKENS.
 fn is_wide(c: &[u8]) -> bool
     ensures { result ≡ is_one_of c.now wide_tokens }
 {
-    if starts(c, b"WIDE") {
-        return wide_end(&c[4..]);
-    }
-    false
+    starts(c, b"WIDE") && wide_end(&c[4..])
 }
 
 // One of the four texts of a row of PAIRS with the name n.
 fn is_pair(c: &[u8], n: &[u8]) -> bool
     ensures { result ≡ is_one_of c.now (pair_texts n.now) }
 {
-    if starts(c, n) {
-        return one_of(&c[n.len()..], b"1-1", b"1", b"2", b"2-1");
-    }
-    false
+    starts(c, n) && one_of(&c[n.len()..], b"1-1", b"1", b"2", b"2-1")
 }
 
 // The row of PAIRS that takes the call.
@@ -102,13 +93,7 @@ pub(crate) fn fixed_of(c: &[u8]) -> Option<u64>
 fn in_range(c: &[u8], n: &[u8], low: u64, high: u64, v: u64) -> bool
     ensures { result ≡ in_range n.now low high v c.now }
 {
-    if starts(c, n) {
-        if v < low {
-            return false;
-        }
-        return v < high;
-    }
-    false
+    starts(c, n) && low <= v && v < high
 }
 
 // The row of NUMBERED that takes a call without a hyphen.
@@ -134,11 +119,5 @@ pub(crate) fn numbered_of(c: &[u8]) -> Option<(u64, u64, usize)>
 pub(crate) fn two_at(c: &[u8], k: usize) -> u64
     ensures { result ≡ num (eqb (get_or c.now k 0) 50) }
 {
-    if c.len() <= k {
-        return 0;
-    }
-    if c[k] == b'2' {
-        return 1;
-    }
-    0
+    u64::from(k < c.len() && c[k] == b'2')
 }

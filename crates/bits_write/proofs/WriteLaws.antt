@@ -104,13 +104,3 @@ top_bits_lem n v l h = rw (width_le n v l h, div-one)
 pub length_top : (n v : ℕ) → length (top_bits n v) ≡ n
 unfolding top_bits
 length_top n v = length_bits n (v / 2 ^ (width_of v - n))
-
--- by the number's width
-pub top_wide : (n v w : ℕ) → w ≡ width_of v → top_bits n v ≡ bits_of n (v / 2 ^ (w - n))
-unfolding top_bits
-top_wide n v w e = rw (← e)
-
-pub top_narrow : (n v w : ℕ) → w ≡ width_of v → w ≤ n → top_bits n v ≡ bits_of n v
-top_narrow n v w e h =
-    let z : w - n ≡ 0 = omega arith in
-    top_wide n v w e ∙ rw (z, div-one)

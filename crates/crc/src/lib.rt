@@ -6,10 +6,10 @@ mod table;
 ghost use Rattle.std.specs.Prelude.{◌≡◌, ◌+◌, ◌*◌, ◌/◌, ◌%◌, ◌≤◌, ◌<◌, length, get_or, take, drop};
 ghost use Rattle.std.specs.Int.Bits.{bit_xor};
 ghost use Rattle.crc.specs.Crc.{start, crc_bit, crc_byte, crc_from, crc_of, crc_bits};
-ghost use Rattle.crc.specs.Rows.{rows, pair_of};
+ghost use Rattle.crc.specs.Rows.{pair_of};
 ghost use Rattle.crc.specs.Fold.{Window, held};
 
-use crate::table::{ROWS, entry};
+use crate::table::entry;
 
 // One step of the division.
 fn crc_bit(c: u16) -> u16
@@ -34,47 +34,46 @@ fn crc_byte(c: u16, b: u8) -> u16
 }
 
 // Two bytes, with k bytes of zeros after them. They are indices here: with bytes the compiler takes longer over the two that are joined with c.
-fn crc_pair(table: &[u16; 256], k: usize, a: usize, b: usize) -> u16
-    requires { (table.now ≡ rows) × (k < 7) × (a < 256) × (b < 256) }
+fn crc_pair(k: usize, a: usize, b: usize) -> u16
+    requires { (k < 7) × (a < 256) × (b < 256) }
     ensures { result ≡ pair_of k a b }
 {
-    entry(table, k + 1, a) ^ entry(table, k, b)
+    entry(k + 1, a) ^ entry(k, b)
 }
 
 // Eight bytes more. Those that do not wait for c come first; the first two are joined with c.
-fn crc_eight(table: &[u16; 256], c: u16, eight: &[u8]) -> u16
-    requires { (table.now ≡ rows) × (length eight.now ≡ 8) }
+fn crc_eight(c: u16, eight: &[u8]) -> u16
+    requires { length eight.now ≡ 8 }
     ensures { result ≡ crc_from c eight.now }
 {
-    let six = crc_pair(table, 4, usize::from(eight[2]), usize::from(eight[3]))
-        ^ crc_pair(table, 2, usize::from(eight[4]), usize::from(eight[5]))
-        ^ crc_pair(table, 0, usize::from(eight[6]), usize::from(eight[7]));
+    let six = crc_pair(4, usize::from(eight[2]), usize::from(eight[3]))
+        ^ crc_pair(2, usize::from(eight[4]), usize::from(eight[5]))
+        ^ crc_pair(0, usize::from(eight[6]), usize::from(eight[7]));
     let high = usize::from(c) / 256 ^ usize::from(eight[0]);
     let low = usize::from(c) % 256 ^ usize::from(eight[1]);
-    six ^ crc_pair(table, 6, high, low)
+    six ^ crc_pair(6, high, low)
 }
 
 // All whole groups of eight bytes, after what came before them. It is put in place at each call: a call costs short inputs more than their groups do.
 #[inline(always)]
-fn crc_rest(table: &[u16; 256], before: u16, data: &[u8]) -> u16
-    requires { table.now ≡ rows }
+fn crc_rest(before: u16, data: &[u8]) -> u16
     ensures { result ≡ crc_from before (take (length «data».now / 8 * 8) «data».now) }
 {
     let mut c = before;
     for eight in data.chunks_exact(8) {
-        c = crc_eight(table, c, eight);
+        c = crc_eight(c, eight);
     }
     c
 }
 
 // What a window stands for: three numbers on one way through it.
-fn crc_window(table: &[u16; 256], w: &[u8]) -> u16
-    requires { (table.now ≡ rows) × (length w.now ≡ 128) }
+fn crc_window(w: &[u8]) -> u16
+    requires { length w.now ≡ 128 }
     ensures { result ≡ held w.now }
 {
-    let first = crc_rest(table, 0, &w[..40]);
-    let second = crc_rest(table, first, &w[40..96]);
-    let third = crc_rest(table, second, &w[96..]);
+    let first = crc_rest(0, &w[..40]);
+    let second = crc_rest(first, &w[40..96]);
+    let third = crc_rest(second, &w[96..]);
     first ^ second ^ third
 }
 
@@ -97,8 +96,7 @@ fn fold(old: [u8; 128], block: &[u8]) -> [u8; 128]
 }
 
 // All whole groups of 128 bytes.
-fn crc_folded(table: &[u16; 256], data: &[u8]) -> u16
-    requires { table.now ≡ rows }
+fn crc_folded(data: &[u8]) -> u16
     ensures { result ≡ crc_from start (take (length «data».now / 128 * 128) «data».now) }
 {
     let mut w = [0u8; 128];
@@ -107,34 +105,32 @@ fn crc_folded(table: &[u16; 256], data: &[u8]) -> u16
     for block in data.chunks_exact(128) {
         w = fold(w, block);
     }
-    crc_window(table, &w)
+    crc_window(&w)
 }
 
 // All whole groups of eight bytes, by a window, which pays where they are many. It is called: put in place it makes short inputs save registers that they do not use.
 #[inline(never)]
-fn crc_groups(table: &[u16; 256], data: &[u8]) -> u16
-    requires { table.now ≡ rows }
+fn crc_groups(data: &[u8]) -> u16
     ensures { result ≡ crc_from start (take (length «data».now / 8 * 8) «data».now) }
 {
-    let c = crc_folded(table, data);
-    crc_rest(table, c, &data[data.len() / 128 * 128..])
+    let c = crc_folded(data);
+    crc_rest(c, &data[data.len() / 128 * 128..])
 }
 
-// The same by the way that is faster for so many.
+// All whole groups of eight bytes, by the way that is faster for so many.
 fn crc_whole(data: &[u8]) -> u16
     ensures { result ≡ crc_from start (take (length «data».now / 8 * 8) «data».now) }
 {
-    let table = &ROWS;
     if data.len() < 8 {
         0xFFFF
     } else if data.len() < 256 {
-        crc_rest(table, 0xFFFF, data)
+        crc_rest(0xFFFF, data)
     } else {
-        crc_groups(table, data)
+        crc_groups(data)
     }
 }
 
-// The CRC of any bytes.
+// The CRC of any bytes. The last of them go by index: over a slice the compiler unrolls the loop, and 15 bytes take 23.5 ns in place of 19.5.
 pub fn crc16_genibus(data: &[u8]) -> u16
     ensures { result ≡ crc_of «data».now }
 {

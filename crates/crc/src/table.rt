@@ -1,10 +1,9 @@
 // What the division makes of four bits that stand at the top, when none, one, .. or fifteen times four zeros follow them.
 ghost use Rattle.std.specs.Prelude.{◌≡◌, ◌+◌, ◌*◌, ◌<◌};
 ghost use Rattle.crc.specs.Crc.{crc_steps};
-ghost use Rattle.crc.specs.Rows.{rows};
 
 // The four bits j in row m are at m * 16 + j.
-pub(crate) const ROWS: [u16; 256] = [
+static ROWS: [u16; 256] = [
     0x0000, 0x1021, 0x2042, 0x3063, 0x4084, 0x50A5, 0x60C6, 0x70E7, 0x8108, 0x9129, 0xA14A, 0xB16B,
     0xC18C, 0xD1AD, 0xE1CE, 0xF1EF, 0x0000, 0x1231, 0x2462, 0x3653, 0x48C4, 0x5AF5, 0x6CA6, 0x7E97,
     0x9188, 0x83B9, 0xB5EA, 0xA7DB, 0xD94C, 0xCB7D, 0xFD2E, 0xEF1F, 0x0000, 0x3331, 0x6662, 0x5553,
@@ -29,12 +28,12 @@ pub(crate) const ROWS: [u16; 256] = [
     0x0B51, 0x36E5, 0x7039, 0x4D8D,
 ];
 
-// A byte with k bytes of zeros after it. The table is lent: each use of the constant would copy it.
-pub(crate) fn entry(table: &[u16; 256], k: usize, b: usize) -> u16
-    requires { (table.now ≡ rows) × (k < 8) × (b < 256) }
+// A byte with k bytes of zeros after it.
+pub(crate) fn entry(k: usize, b: usize) -> u16
+    requires { (k < 8) × (b < 256) }
     ensures { result ≡ crc_steps ((k + 1) * 8) (b * 256) }
 {
     let high = k * 32 + 16 + b / 16;
     let low = k * 32 + b % 16;
-    table[high] ^ table[low]
+    ROWS[high] ^ ROWS[low]
 }

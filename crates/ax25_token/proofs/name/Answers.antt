@@ -3,7 +3,7 @@
 use mathlib.Core.Path.{◌≡◌, refl, ap, ◌∙◌}
 use mathlib.Core.Bool.{true}
 use mathlib.Core.List.{List, [], ◌∷◌, map}
-use Prim.Native.Nat.{ℕ, ◌+◌, ◌-◌, ◌≤◌}
+use Prim.Native.Nat.{ℕ, zero, suc, ◌+◌, ◌-◌, ◌≤◌, ◌<◌}
 use native.Mathlib.Omega.{arith}
 use lib.ListN.{length, get_or}
 use Rattle.laws.specs.Pick.{pick}
@@ -34,6 +34,20 @@ words =
     ascii "WIDE" ∷ ascii "PNW" ∷ ascii "MW" ∷ ascii "OR" ∷ ascii "WA" ∷ ascii "ALL" ∷ ascii "CQ" ∷ ascii "APIN" ∷ ascii "APWW"
     ∷ ascii "APDR" ∷ ascii "APBPQ1" ∷ ascii "APJYC1" ∷ ascii "APOPYT" ∷ ascii "APU25N" ∷ ascii "APVARA" ∷ []
 
+-- a call of a table, by its bytes and its length
+row_parts : (calls : List Call) (k : ℕ) (d : Call) → k < length calls
+    → get_or calls k d ≡ record { bytes = get_or (map (λ (c : Call). c.bytes) calls) k []; len = get_or (map (λ (c : Call). c.len) calls) k 0 }
+row_parts [] k d h = absurd (omega arith)
+row_parts (c ∷ calls) zero d h = refl
+row_parts (c ∷ calls) (suc k) d h = row_parts calls k d (omega arith)
+
+abbrev table : List Call
+table = map (λ (n : List ℕ). record { bytes = filled 16 n; len = length n }) words
+
 pub returns : goal.returns
 unfolding below is_row call_at same filled appended form_name form_of symbol_form pair_form fixed_form numbered_form wide_row pair_rows fixed_rows numbered_rows long pick
-returns c = name_is (map (filled 16) words) (map length words) refl c.args.i (omega arith) (omega arith)
+returns c =
+    let i = c.args.i in
+    let known = name_is (map (λ (c : Call). c.bytes) table) (map (λ (c : Call). c.len) table) refl i (omega arith) (omega arith) in
+    let is = row_parts table (i - 37) (record { bytes = []; len = 0 }) (omega arith) in
+    (is ∙ known.0, omega (arith, ap (λ (c : Call). c.len) is, known.1))

@@ -1,6 +1,5 @@
 -- `ax25_token::named` meets its contract, by the ways through it.
 -- Assumes nothing.
-use borrow.Author.Rules.{rules}
 use native.Mathlib.Omega.{arith}
 use Rattle.ax25_token.proofs.Cases.{form_wide, form_pair, form_apin, form_apww, form_apdr}
 use Rattle.ax25_token.proofs.TokenWays.{fixed_form_lem, named_pair, named_number, named_fixed}

@@ -9,7 +9,7 @@ returns-then-mended c =
     let found = c.bit_take_at.ensures in
     (found.0, found.1 ∙ took_binary _ _ _ _ c.if-mended.true)
 
-pub returns : goal.returns
-returns c =
+pub returns-else-mended : goal.returns-else-mended
+returns-else-mended c =
     let found = c.bit_text_at.ensures in
     (found.0, found.1 ∙ took_digits _ _ _ _ c.if-mended.false)

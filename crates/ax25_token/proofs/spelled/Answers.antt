@@ -1,6 +1,5 @@
 -- `ax25_token::spelled` meets its contract, by the ways through it.
 -- Assumes nothing.
-use borrow.Author.Rules.{rules}
 use mathlib.Core.Path.{sym, ◌∙◌}
 use native.Mathlib.Omega.{arith}
 use Rattle.bits.proofs.TakenLaws.{told_small}

@@ -1,6 +1,5 @@
 -- `ax25_token::token_decode` meets its contract, by the ways through it.
 -- Assumes nothing.
-use borrow.Author.Rules.{rules}
 use mathlib.Core.Path.{refl, sym, ◌∙◌}
 use native.Mathlib.Omega.{arith}
 use Rattle.ax25_token.proofs.TokenWays.{no_index, by_name, by_letters, by_ap, by_none}

@@ -13,7 +13,7 @@ returns c =
     let l = c.args.eight.now in
     let byte : (i : ℕ) → get_or l i 0 < 256 = λ i. omega (arith, c.type_inv.eight i) in
     let joined =
-    ap (crc_from c.args.c) (eight l c.requires.1)
+    ap (crc_from c.args.c) (eight l c.requires)
     ∙ fours c.args.c (get_or l 0 0) (get_or l 1 0) (get_or l 2 0) (get_or l 3 0) (get_or l 4 0) (get_or l 5 0) (get_or l 6 0) (get_or l 7 0) (omega arith)
     (byte 0, byte 1) (byte 2, byte 3) (byte 4, byte 5) (byte 6, byte 7) in
     cc

@@ -14,5 +14,5 @@ slice_bounds-crc_rest-end c = omega (arith, length-take 40 c.args.w.now)
 pub returns : goal.returns
 returns c =
     let w = c.args.w.now in
-    window_parts w _ _ _ c.requires.1 c.crc_rest-first.ensures c.crc_rest-second.ensures
+    window_parts w _ _ _ c.requires c.crc_rest-first.ensures c.crc_rest-second.ensures
     (c.crc_rest-third.ensures ∙ ap (eights_of c.crc_rest-second.result) (from_place w 96))

@@ -1,18 +1,27 @@
 -- `ax25_token::encode::cased` meets its contract.
 -- Assumes nothing.
-use mathlib.Core.Path.{sym, ◌∙◌}
+use mathlib.Core.Path.{◌≡◌, sym, ◌∙◌}
+use Prim.Native.Nat.{ℕ}
+use native.Mathlib.Omega.{arith}
+use Rattle.std.specs.Char.{to_ascii_uppercase}
+use Rattle.laws.specs.Text.{upper}
+use Rattle.laws.proofs.Cases.{by_le}
 use Rattle.laws.proofs.TextLaws.{upper_low, upper_high, upper_small}
+use Rattle.std.proofs.lemmas.Bool.Decides.{nat_tests}
 use Rattle.ax25_token.proofs.PutLaws.{cased_plain, cased_up}
 use Rattle.ax25_token.proofs.encode.cased.Goals as goal
 
-pub returns-then-not-up : goal.returns-then-not-up
-returns-then-not-up c = sym (cased_plain _ _ (c.if-not-up.true))
+-- the library's upper case is the source's
+upper_is : (x : ℕ) → to_ascii_uppercase x ≡ upper x
+upper_is x =
+    by_le 97 x
+    (λ p. by_le x 122
+    (λ q. let e = upper_small x p q in grind (arith, nat_tests))
+    (λ q. let e = upper_high x q in grind (arith, nat_tests)))
+    (λ p. let e = upper_low x p in grind (arith, nat_tests))
 
-pub returns-then-x-lt97 : goal.returns-then-x-lt97
-returns-then-x-lt97 c = sym (cased_up _ _ (c.if-not-up.false) ∙ upper_low _ c.if-x-lt97.true)
+pub returns-then-up : goal.returns-then-up
+returns-then-up c = c.to_ascii_uppercase.ensures.value ∙ upper_is c.args.x ∙ sym (cased_up c.args.up c.args.x c.if-up.true)
 
-pub returns-then-x-gt122 : goal.returns-then-x-gt122
-returns-then-x-gt122 c = sym (cased_up _ _ (c.if-not-up.false) ∙ upper_high _ c.if-x-gt122.true)
-
-pub returns : goal.returns
-returns c = sym (cased_up _ _ (c.if-not-up.false) ∙ upper_small _ c.if-x-lt97.false c.if-x-gt122.false)
+pub returns-else-up : goal.returns-else-up
+returns-else-up c = sym (cased_plain c.args.up c.args.x c.if-up.false)

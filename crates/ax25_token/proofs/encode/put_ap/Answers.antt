@@ -1,6 +1,5 @@
 -- `ax25_token::encode::put_ap` meets its contract, by the ways through it.
 -- Assumes nothing.
-use borrow.Author.Rules.{rules}
 use mathlib.Core.Path.{◌≡◌, ap}
 use mathlib.Core.List.{List}
 use Prim.Native.Nat.{ℕ, ◌-◌}

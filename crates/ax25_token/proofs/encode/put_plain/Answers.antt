@@ -4,7 +4,6 @@ use native.Mathlib.Omega.{arith}
 use Rattle.laws.proofs.WroteLaws.{wrote_then}
 use Rattle.ax25_token.proofs.PutLaws.{plain_size}
 use Rattle.ax25_token.proofs.NameLaws.{plain_unhyphened, small_count, plain_uncounted, plain_counted}
-use borrow.Author.Rules.{rules}
 use Rattle.ax25_token.proofs.encode.put_plain.Goals as goal
 
 pub numbered_of-requires : goal.numbered_of-requires
@@ -19,11 +18,6 @@ pub returns-in_default : goal.returns-in_default
 returns-in_default c =
     let a = c.args in
     rw (plain_uncounted a.l a.c.now _ c.numbered_of.ensures.result_value c.in_default.is) c.put_ap.ensures
-
-pub push-requires : goal.push-requires
-push-requires c =
-    let small = small_count _ _ _ _ c.numbered_of.ensures.small_count c.in-Some.is in
-    (omega (arith, small), omega (arith, c.push-p.ensures.value, c.requires.2))
 
 pub returns : goal.returns
 returns c =

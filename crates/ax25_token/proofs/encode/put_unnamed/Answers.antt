@@ -2,20 +2,14 @@
 -- Assumes nothing.
 use mathlib.Core.Path.{sym, ◌∙◌}
 use Rattle.ax25_token.proofs.NameLaws.{unnamed_plain, unnamed_other}
-use borrow.Author.Rules.{rules}
 use Rattle.ax25_token.proofs.encode.put_unnamed.Goals as goal
-
-pub put_plain-requires : goal.put_plain-requires
-put_plain-requires c =
-    let pre = c.requires in
-    (sym c.plain_ap.ensures ∙ c.if-plain_ap.true, pre.0, pre.1)
 
 pub returns-then-plain_ap : goal.returns-then-plain_ap
 returns-then-plain_ap c =
     let a = c.args in
     rw (unnamed_plain a.l a.c.now (sym c.plain_ap.ensures ∙ c.if-plain_ap.true)) c.put_plain.ensures
 
-pub returns : goal.returns
-returns c =
+pub returns-else-plain_ap : goal.returns-else-plain_ap
+returns-else-plain_ap c =
     let a = c.args in
     rw (unnamed_other a.l a.c.now (sym c.plain_ap.ensures ∙ c.if-plain_ap.false)) c.put_spelled.ensures

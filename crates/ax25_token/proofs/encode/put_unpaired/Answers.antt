@@ -1,7 +1,6 @@
 -- `ax25_token::encode::put_unpaired` meets its contract.
 -- Assumes nothing.
 use Rattle.ax25_token.proofs.NameLaws.{unpaired_unnamed, unpaired_fixed}
-use borrow.Author.Rules.{rules}
 use Rattle.ax25_token.proofs.encode.put_unpaired.Goals as goal
 
 pub returns-in_default : goal.returns-in_default

@@ -25,10 +25,10 @@ some_behind c k e h =
     take_all (length c - (k + 1)) (drop (k + 1) c) (omega (arith, length-drop (k + 1) c))
     ∙ rw (e, add-one) (behind_drop c)
 
-pub returns-then-c-k : goal.returns-then-c-k
-returns-then-c-k c = none_behind _ _ c.requires c.if-c-k.true
+pub returns-else-k-c : goal.returns-else-k-c
+returns-else-k-c c = none_behind _ _ c.requires c.if-k-c.false
 
-pub returns : goal.returns
-returns c =
+pub returns-then-k-c : goal.returns-then-k-c
+returns-then-k-c c =
     let a = c.args in
-    c.vb_val.ensures ∙ ap val_of (some_behind a.c.now a.k c.requires c.if-c-k.false)
+    c.vb_val.ensures ∙ ap val_of (some_behind a.c.now a.k c.requires c.if-k-c.true)

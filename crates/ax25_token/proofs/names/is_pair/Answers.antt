@@ -14,5 +14,5 @@ slice_bounds-one_of-start c = omega (arith, starts_room c.args.n.now c.args.c.no
 pub returns-then-starts : goal.returns-then-starts
 returns-then-starts c = c.one_of.ensures ∙ pair_behind _ _ (sym c.starts.ensures ∙ c.if-starts.true)
 
-pub returns : goal.returns
-returns c = sym (pair_other _ _ (sym c.starts.ensures ∙ c.if-starts.false))
+pub returns-else-starts : goal.returns-else-starts
+returns-else-starts c = c.if-starts.false ∙ sym (pair_other _ _ (sym c.starts.ensures ∙ c.if-starts.false))

@@ -15,5 +15,5 @@ slice_bounds-wide_end-start c = omega (arith, starts_room (ascii "WIDE") c.args.
 pub returns-then-starts : goal.returns-then-starts
 returns-then-starts c = c.wide_end.ensures ∙ wide_behind _ (sym c.starts.ensures ∙ c.if-starts.true)
 
-pub returns : goal.returns
-returns c = sym (wide_other _ (sym c.starts.ensures ∙ c.if-starts.false))
+pub returns-else-starts : goal.returns-else-starts
+returns-else-starts c = c.if-starts.false ∙ sym (wide_other _ (sym c.starts.ensures ∙ c.if-starts.false))
