@@ -1,5 +1,6 @@
 -- The ways through the coder of a frame's head.
 -- Assumes nothing.
+use Rattle.std.proofs.Common.{Option}
 use mathlib.Core.Path.{◌≡◌, refl, sym, ap, ◌∙◌}
 use mathlib.Core.Bool.{Bool, true, false, ◌&&◌}
 use mathlib.Core.List.{List, [], ◌∷◌, ◌++◌, map}
@@ -16,8 +17,6 @@ use Rattle.laws.specs.Wrote.{Wrote}
 use Rattle.laws.specs.Text.{upper}
 use Rattle.laws.proofs.ListLaws.{from_place}
 use Rattle.laws.proofs.WroteLaws.{wrote_none, wrote_then}
-use Rattle.ax25_token.specs.declared.encode.Put.{Put}
-use Rattle.ax25_token.specs.declared.encode.Put.TheVariants.{Next, Bad}
 use Rattle.ax25_token.specs.Put.{cased_of, Puts}
 use Rattle.ax25_token.specs.Token.{base_of, token_bits}
 use Rattle.ax25_token.proofs.PutLaws.{gave, bad, puts, puts_none, map_plain, map_up}
@@ -114,7 +113,7 @@ module _ (l n : ℕ) (d : List ℕ) (b : List Bool) (at : ℕ) where
   pub heard_done : n ≡ 0 → Wrote b at (map (heard_in l) (fields_of l n d)) b at
   heard_done e = rw (fields_none l n d e) wrote_none
 
-  pub tokens_done : n ≡ 0 → Puts b at (tokens_bits l (map (addr_call l) (fields_of l n d))) b (Next at)
+  pub tokens_done : n ≡ 0 → Puts b at (tokens_bits l (map (addr_call l) (fields_of l n d))) b (Some at)
   unfolding tokens_bits
   tokens_done e = rw (fields_none l n d e) wrote_none
 
@@ -128,14 +127,14 @@ module _ (l n : ℕ) (d : List ℕ) (b : List Bool) (at : ℕ) where
     heard_wrote f g = rw (heard_some l n d h) (wrote_then f (rw (from_place d (l + 1)) at g))
 
     -- the first token is no call
-    pub tokens_bad : (t : Put) → t ≡ Bad → Puts b at (token_bits l (map (cased_of false) (addr_call l d))) c t
-        → Puts b at (tokens_bits l (map (addr_call l) (fields_of l n d))) e Bad
+    pub tokens_bad : (t : Option ℕ) → t ≡ None → Puts b at (token_bits l (map (cased_of false) (addr_call l d))) c t
+        → Puts b at (tokens_bits l (map (addr_call l) (fields_of l n d))) e None
     tokens_bad t q f =
         let x = bad b at c (token_bits l (map (cased_of false) (addr_call l d))) t q f in
         puts_none b at e (ap (tokens_bits l) (calls_some l n d h) ∙ tokens_first l (addr_call l d) _ (ap (token_bits l) (sym (map_plain (addr_call l d))) ∙ x))
 
-    pub tokens_next : (t : Put) (p : ℕ) → t ≡ Next p → Puts b at (token_bits l (map (cased_of false) (addr_call l d))) c t
-        → (r : Put) → Puts c p (tokens_bits l (map (addr_call l) (fields_of l (n - 1) others))) e r
+    pub tokens_next : (t : Option ℕ) (p : ℕ) → t ≡ Some p → Puts b at (token_bits l (map (cased_of false) (addr_call l d))) c t
+        → (r : Option ℕ) → Puts c p (tokens_bits l (map (addr_call l) (fields_of l (n - 1) others))) e r
         → Puts b at (tokens_bits l (map (addr_call l) (fields_of l n d))) e r
     tokens_next t p q f r g =
         let x = gave b at c (token_bits l (map (cased_of false) (addr_call l d))) t p q f in
@@ -143,15 +142,15 @@ module _ (l n : ℕ) (d : List ℕ) (b : List Bool) (at : ℕ) where
         let cs = map (addr_call l) (fields_of l (n - 1) (drop (l + 1) d)) in
         rw (calls_some l n d h) (by (addr_call l d) cs x.bits first x.wrote r (rw (from_place d (l + 1)) at g))
       where
-        by : (v : List ℕ) (vs : List (List ℕ)) (x : List Bool) → token_bits l v ≡ Some x → Wrote b at x c p → (r : Put) → Puts c p (tokens_bits l vs) e r
+        by : (v : List ℕ) (vs : List (List ℕ)) (x : List Bool) → token_bits l v ≡ Some x → Wrote b at x c p → (r : Option ℕ) → Puts c p (tokens_bits l vs) e r
             → Puts b at (tokens_bits l (v ∷ vs)) e r
-        by v vs x k w (Next q) m =
-            let y = gave c p e (tokens_bits l vs) (Next q) q refl m in
+        by v vs x k w (Some q) m =
+            let y = gave c p e (tokens_bits l vs) (Some q) q refl m in
             puts b at e (x ++ y.bits) q (tokens_more l v vs x y.bits k y.is) (wrote_then w y.wrote)
-        by v vs x k w Bad m = puts_none b at e (tokens_rest l v vs x k (bad c p e (tokens_bits l vs) Bad refl m))
+        by v vs x k w None m = puts_none b at e (tokens_rest l v vs x k (bad c p e (tokens_bits l vs) None refl m))
 
 -- a token takes few bits
-module _ (l : ℕ) (two : 2 ≤ l) (high : l ≤ 7) (b : List Bool) (at : ℕ) (c : List Bool) (t : Put) (p : ℕ) (e : t ≡ Next p) where
+module _ (l : ℕ) (two : 2 ≤ l) (high : l ≤ 7) (b : List Bool) (at : ℕ) (c : List Bool) (t : Option ℕ) (p : ℕ) (e : t ≡ Some p) where
   token_room : (v : List ℕ) → length (base_of v) ≤ l → Puts b at (token_bits l v) c t → p ≤ at + 46
   token_room v h f =
       let x = gave b at c (token_bits l v) t p e f in
@@ -163,42 +162,68 @@ module _ (l : ℕ) (two : 2 ≤ l) (high : l ≤ 7) (b : List Bool) (at : ℕ) (
 
 -- ---- the digipeaters
 
-pub digis_none : (l : ℕ) (ap : Bool) (vs : List (List ℕ)) (b : List Bool) (at : ℕ) → length vs ≡ 0 → Puts b at (digi_bits l ap vs) b (Next at)
+-- the number of an alias takes three bits
+alias_from_le : (k : ℕ) (names digis : List (List ℕ)) → alias_from k names digis ≤ k + length names
+unfolding alias_from
+alias_from_le k [] digis = omega arith
+alias_from_le k (a ∷ names) digis =
+    let same = same_all digis (alias_calls a 1 (length digis)) in
+    by_test same
+    (λ h. rw (pick_true k (alias_from (suc k) names digis) h) (omega arith))
+    (λ h. rw (pick_false k (alias_from (suc k) names digis) h) (omega (arith, alias_from_le (suc k) names digis)))
+
+pub alias_small : (vs : List (List ℕ)) → alias_of vs ≤ 6
+unfolding alias_of
+alias_small [] = omega arith
+alias_small (v ∷ vs) = omega (arith, alias_from_le 1 aliases (v ∷ vs), alias_count)
+  where
+    alias_count : length aliases ≡ 5
+    alias_count = refl
+
+-- the bit that says whether there is one
+alias_flag : (o : Option ℕ) → is_some o ≡ ltb 0 (alias_number o)
+alias_flag None = refl
+alias_flag (Some i) = sym (lt-ltb 0 (suc i) (omega arith))
+
+pub alias_bit : (o : Option ℕ) {b c : List Bool} {at p : ℕ} → Wrote b at (is_some o ∷ []) c p → Wrote b at (ltb 0 (alias_number o) ∷ []) c p
+alias_bit o w = rw (← alias_flag o) w
+
+pub digis_none : (l : ℕ) (ap : Bool) (vs : List (List ℕ)) (b : List Bool) (at : ℕ) → length vs ≡ 0 → Puts b at (digi_bits l ap vs) b (Some at)
 unfolding digi_bits
 digis_none l ap [] b at e = wrote_none
 digis_none l ap (v ∷ vs) b at e = absurd (omega arith)
 
 module _ (l : ℕ) (vs : List (List ℕ)) (h : length vs ≡ 0 → ⊥) (ap : Bool) (b : List Bool) (at : ℕ) (e : List Bool) where
   -- the destination does not start with AP
-  pub digis_tokens : ap ≡ false → (r : Put) → Puts b at (tokens_bits l vs) e r → Puts b at (digi_bits l ap vs) e r
+  pub digis_tokens : ap ≡ false → (r : Option ℕ) → Puts b at (tokens_bits l vs) e r → Puts b at (digi_bits l ap vs) e r
   digis_tokens q r f = rw q (by vs h r f)
     where
-      by : (vs : List (List ℕ)) → (length vs ≡ 0 → ⊥) → (r : Put) → Puts b at (tokens_bits l vs) e r → Puts b at (digi_bits l false vs) e r
+      by : (vs : List (List ℕ)) → (length vs ≡ 0 → ⊥) → (r : Option ℕ) → Puts b at (tokens_bits l vs) e r → Puts b at (digi_bits l false vs) e r
       by [] k r g = absurd (k refl)
-      by (v ∷ vs) k (Next p) g =
-          let y = gave b at e (tokens_bits l (v ∷ vs)) (Next p) p refl g in
+      by (v ∷ vs) k (Some p) g =
+          let y = gave b at e (tokens_bits l (v ∷ vs)) (Some p) p refl g in
           puts b at e y.bits p (digis_plain l v vs y.bits y.is) y.wrote
-      by (v ∷ vs) k Bad g = puts_none b at e (digis_bad l v vs false refl (bad b at e (tokens_bits l (v ∷ vs)) Bad refl g))
+      by (v ∷ vs) k None g = puts_none b at e (digis_bad l v vs false refl (bad b at e (tokens_bits l (v ∷ vs)) None refl g))
 
   module _ (a p : ℕ) (c : List Bool) (q : ap ≡ true) (alias : a ≡ alias_of vs) (w : Wrote b at (ltb 0 a ∷ []) c p) where
-    pub digis_aliased : {n : ℕ} → 0 < a → Wrote c p (bits_of 3 a) e n → Puts b at (digi_bits l ap vs) e (Next n)
+    pub digis_aliased : {n : ℕ} → 0 < a → Wrote c p (bits_of 3 a) e n → Puts b at (digi_bits l ap vs) e (Some n)
     digis_aliased {n} k v = rw q (by vs h (rw alias at k) (rw (lt-ltb 0 a k, alias) at (wrote_then w v)))
       where
-        by : (vs : List (List ℕ)) → (length vs ≡ 0 → ⊥) → 0 < alias_of vs → Wrote b at (true ∷ bits_of 3 (alias_of vs)) e n → Puts b at (digi_bits l true vs) e (Next n)
+        by : (vs : List (List ℕ)) → (length vs ≡ 0 → ⊥) → 0 < alias_of vs → Wrote b at (true ∷ bits_of 3 (alias_of vs)) e n → Puts b at (digi_bits l true vs) e (Some n)
         by [] m k g = absurd (m refl)
         by (v ∷ vs) m k g = puts b at e _ n (digis_alias l v vs k) g
 
-    pub digis_marked : a ≤ 0 → (r : Put) → Puts c p (tokens_bits l vs) e r → Puts b at (digi_bits l ap vs) e r
+    pub digis_marked : a ≤ 0 → (r : Option ℕ) → Puts c p (tokens_bits l vs) e r → Puts b at (digi_bits l ap vs) e r
     digis_marked k r f =
-        let None : alias_of vs ≡ 0 = omega (arith, k, alias) in
-        rw q (by vs h None (rw (le-ltb 0 a k) at w) r f)
+        let missing : alias_of vs ≡ 0 = omega (arith, k, alias) in
+        rw q (by vs h missing (rw (le-ltb 0 a k) at w) r f)
       where
-        by : (vs : List (List ℕ)) → (length vs ≡ 0 → ⊥) → alias_of vs ≡ 0 → Wrote b at (false ∷ []) c p → (r : Put) → Puts c p (tokens_bits l vs) e r → Puts b at (digi_bits l true vs) e r
+        by : (vs : List (List ℕ)) → (length vs ≡ 0 → ⊥) → alias_of vs ≡ 0 → Wrote b at (false ∷ []) c p → (r : Option ℕ) → Puts c p (tokens_bits l vs) e r → Puts b at (digi_bits l true vs) e r
         by [] m z u r g = absurd (m refl)
-        by (v ∷ vs) m z u (Next n) g =
-            let y = gave c p e (tokens_bits l (v ∷ vs)) (Next n) n refl g in
+        by (v ∷ vs) m z u (Some n) g =
+            let y = gave c p e (tokens_bits l (v ∷ vs)) (Some n) n refl g in
             puts b at e (false ∷ y.bits) n (digis_ap l v vs y.bits z y.is) (wrote_then u y.wrote)
-        by (v ∷ vs) m z u Bad g = puts_none b at e (digis_bad l v vs true (ap_none z) (bad c p e (tokens_bits l (v ∷ vs)) Bad refl g))
+        by (v ∷ vs) m z u None g = puts_none b at e (digis_bad l v vs true (ap_none z) (bad c p e (tokens_bits l (v ∷ vs)) None refl g))
           where
             ap_none : alias_of (v ∷ vs) ≡ 0 → (true && ltb 0 (alias_of (v ∷ vs))) ≡ false
             ap_none y = rw y

@@ -1,5 +1,6 @@
 -- The coder of a frame's head, over the places of its parts.
 -- Assumes nothing.
+use Rattle.std.proofs.Common.{Option, None}
 use mathlib.Core.Path.{◌≡◌, sym, ap, ◌∙◌}
 use mathlib.Core.Bool.{Bool, true}
 use mathlib.Core.List.{List, map}
@@ -14,8 +15,6 @@ use Rattle.laws.specs.Text.{upper}
 use Rattle.laws.specs.Wrote.{Wrote}
 use Rattle.laws.proofs.ListLaws.{from_place}
 use Rattle.laws.proofs.WroteLaws.{wrote_then}
-use Rattle.ax25_token.specs.declared.encode.Put.{Put}
-use Rattle.ax25_token.specs.declared.encode.Put.TheVariants.{Next, Bad}
 use Rattle.ax25_token.specs.Put.{cased_of, Puts}
 use Rattle.ax25_token.specs.Token.{token_bits}
 use Rattle.ax25_token.proofs.PutLaws.{gave, bad, puts, puts_none, map_up}
@@ -69,7 +68,7 @@ pub heard_room : (l n : ℕ) (d : List ℕ) (b c : List Bool) (at p : ℕ) → W
 heard_room l n d b c at p w = omega (arith, w.next_is, length-map (fields_of l n d) (heard_in l), fields_count l n d)
 
 module _ (command l : ℕ) (two : 2 ≤ l) (high : l ≤ 7) (d : List ℕ) (s : Seen) (k : Known command l d s) where
-  pub digis_room : (b c : List Bool) (at : ℕ) (t : Put) (p : ℕ) → t ≡ Next p
+  pub digis_room : (b c : List Bool) (at : ℕ) (t : Option ℕ) (p : ℕ) → t ≡ Some p
       → Puts b at (digi_bits l s.ap (map (addr_call l) (fields_of l s.digis (from (2 * (l + 1)) d)))) c t → p ≤ at + 369
   digis_room b c at t p e f =
       let o = parts_of command l d s k in
@@ -90,29 +89,29 @@ module _ (command l : ℕ) (d : List ℕ) (s : Seen) (p : Parsed) (o : Parts com
   abbrev rest : List (List ℕ)
   rest = map (addr_call l) (fields_of l s.digis (from (2 * (l + 1)) d))
 
-  module _ (c e : List Bool) (at : ℕ) (t : Put) where
-    pub bad_dest : t ≡ Bad → Puts c at (token_bits l first) e t → (b : List Bool) (n : ℕ) (g : List Bool) → Puts b n (head_bits l p (type_of command p)) g Bad
+  module _ (c e : List Bool) (at : ℕ) (t : Option ℕ) where
+    pub bad_dest : t ≡ None → Puts c at (token_bits l first) e t → (b : List Bool) (n : ℕ) (g : List Bool) → Puts b n (head_bits l p (type_of command p)) g None
     bad_dest q f b n g = puts_none b n g (head_dest l p (type_of command p) (ap (token_bits l) (sym o.dest_is) ∙ bad c at e (token_bits l first) t q f))
 
-    module _ (v : ℕ) (q : t ≡ Next v) (f : Puts c at (token_bits l first) e t) (h : List Bool) (u : Put) (z : Puts e v (token_bits l second) h u) where
+    module _ (v : ℕ) (q : t ≡ Some v) (f : Puts c at (token_bits l first) e t) (h : List Bool) (u : Option ℕ) (z : Puts e v (token_bits l second) h u) where
       dest : token_bits l p.dest ≡ Some (gave c at e (token_bits l first) t v q f).bits
       dest = ap (token_bits l) (sym o.dest_is) ∙ (gave c at e (token_bits l first) t v q f).is
 
-      pub bad_src : u ≡ Bad → (b : List Bool) (n : ℕ) (g : List Bool) → Puts b n (head_bits l p (type_of command p)) g Bad
+      pub bad_src : u ≡ None → (b : List Bool) (n : ℕ) (g : List Bool) → Puts b n (head_bits l p (type_of command p)) g None
       bad_src k b n g = puts_none b n g (head_src l p (type_of command p) _ dest (ap (token_bits l) (sym o.src_is) ∙ bad e v h (token_bits l second) u k z))
 
-      module _ (w : ℕ) (k : u ≡ Next w) (i : List Bool) (r : Put) (y : Puts h w (digi_bits l s.ap rest) i r) where
+      module _ (w : ℕ) (k : u ≡ Some w) (i : List Bool) (r : Option ℕ) (y : Puts h w (digi_bits l s.ap rest) i r) where
         src : token_bits l p.src ≡ Some (gave e v h (token_bits l second) u w k z).bits
         src = ap (token_bits l) (sym o.src_is) ∙ (gave e v h (token_bits l second) u w k z).is
 
         same_digis : digi_bits l (is_ap p) p.digis ≡ digi_bits l s.ap rest
         same_digis = rw (o.ap_is, o.digis_is)
 
-        pub bad_digis : r ≡ Bad → (b : List Bool) (n : ℕ) (g : List Bool) → Puts b n (head_bits l p (type_of command p)) g Bad
+        pub bad_digis : r ≡ None → (b : List Bool) (n : ℕ) (g : List Bool) → Puts b n (head_bits l p (type_of command p)) g None
         bad_digis j b n g = puts_none b n g (head_digis l p (type_of command p) _ _ dest src (same_digis ∙ bad h w i (digi_bits l s.ap rest) r j y))
 
-        pub head_wrote : (x : ℕ) → r ≡ Next x → (b : List Bool) (n : ℕ) → Wrote b n (map (heard_in l) (fields_of l s.digis (from (2 * (l + 1)) d))) c at
-            → (g : List Bool) (m : ℕ) → Wrote i x (bits_of (type_width s.ap) s.typ) g m → Puts b n (head_bits l p (type_of command p)) g (Next m)
+        pub head_wrote : (x : ℕ) → r ≡ Some x → (b : List Bool) (n : ℕ) → Wrote b n (map (heard_in l) (fields_of l s.digis (from (2 * (l + 1)) d))) c at
+            → (g : List Bool) (m : ℕ) → Wrote i x (bits_of (type_width s.ap) s.typ) g m → Puts b n (head_bits l p (type_of command p)) g (Some m)
         head_wrote x j b n heard g m typ =
             let a = gave c at e (token_bits l first) t v q f in
             let a₂ = gave e v h (token_bits l second) u w k z in

@@ -1,5 +1,7 @@
 -- The coder of a frame's body, over the places of its parts.
 -- Assumes nothing.
+use Rattle.std.proofs.Common.{Result, Ok}
+use Rattle.refusals.specs.declared.Refusal.{Refusal}
 use mathlib.Core.Path.{◌≡◌, refl, sym, ap, ap₂, ◌∙◌}
 use mathlib.Core.Logic.{inl, inr}
 use mathlib.Core.Bool.{Bool, true, false, ◌&&◌}
@@ -32,8 +34,6 @@ use Rattle.ax25_address.proofs.RecordLaws.{Known}
 use Rattle.ax25_aprs.specs.Body.{body_bits}
 use Rattle.ax25_aprs.specs.Put.{Does}
 use Rattle.ax25_aprs.specs.Third.{third_bits}
-use Rattle.ax25_aprs.specs.declared.part.Part.{Part}
-use Rattle.ax25_aprs.specs.declared.part.Part.TheVariants.{Next}
 use Rattle.ax25_aprs.proofs.PartLaws.{does}
 use Rattle.ax25_body.specs.Read.{after_type}
 use Rattle.ax25.specs.Encode.{body_bytes, info_bits}
@@ -142,7 +142,7 @@ module _ (command l : ℕ) (d : List ℕ) (s : Seen) (k : Known command l d s) w
     module _ (head : List Bool) (b : List Bool) (at : ℕ) (c : List Bool) where
       pub text_does : s.typ ≡ Text → at ≡ 8 + length head → (type_of command p ≡ Text → last_or false head ≡ false) → (start : ℕ)
           → start ≡ pick (eqb s.ctrl 0x03 && eqb s.pid 0xF0) (end + 2) end → (q : ℕ)
-          → Wrote b at (text7_bits at false (from start d)) c q → Does (info_bits l p (type_of command p) head) b at c (Next q)
+          → Wrote b at (text7_bits at false (from start d)) c q → Does (info_bits l p (type_of command p) head) b at c (Ok q)
       unfolding info_bits pick
       text_does t a last start f q w =
           let typ : type_of command p ≡ Text = sym type_of_lem ∙ t in
@@ -150,20 +150,20 @@ module _ (command l : ℕ) (d : List ℕ) (s : Seen) (k : Known command l d s) w
           rw (typ, last typ) (does (wrote_as x w))
 
       pub binary_does : s.typ ≡ Binary → (start : ℕ) → start ≡ pick (eqb s.ctrl 0x03 && eqb s.pid 0xF0) (end + 2) end → (q : ℕ)
-          → Wrote b at (unpack (from start d)) c q → Does (info_bits l p (type_of command p) head) b at c (Next q)
+          → Wrote b at (unpack (from start d)) c q → Does (info_bits l p (type_of command p) head) b at c (Ok q)
       unfolding info_bits pick
       binary_does t start f q w =
           let typ : type_of command p ≡ Binary = sym type_of_lem ∙ t in
           rw typ (does (wrote_as (ap unpack (body_from start f)) w))
 
-      pub third_does : s.typ ≡ ThirdParty → (start : ℕ) → start ≡ end + 2 → (r : Part) → Does (third_bits l (drop 1 (from start d))) b at c r
+      pub third_does : s.typ ≡ ThirdParty → (start : ℕ) → start ≡ end + 2 → (r : Result ℕ Refusal) → Does (third_bits l (drop 1 (from start d))) b at c r
           → Does (info_bits l p (type_of command p) head) b at c r
       unfolding info_bits pick
       third_does t start f r w =
           let typ : type_of command p ≡ ThirdParty = sym type_of_lem ∙ t in
           rw typ (rw (info_from start f) at w)
 
-      pub own_does : Own s.typ → (start : ℕ) → start ≡ end + 2 → (r : Part) → Does (body_bits s.typ l (after_type s.typ (from start d))) b at c r
+      pub own_does : Own s.typ → (start : ℕ) → start ≡ end + 2 → (r : Result ℕ Refusal) → Does (body_bits s.typ l (after_type s.typ (from start d))) b at c r
           → Does (info_bits l p (type_of command p) head) b at c r
       unfolding info_bits pick
       own_does o start f r w = rw (← type_of_lem, o.not_text, o.not_binary, o.not_third) (rw (after_own s.typ (from start d) o.not_text, info_from start f) at w)

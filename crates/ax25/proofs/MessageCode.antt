@@ -1,5 +1,7 @@
 -- The coder of a frame as a whole: the header byte, the head, the body, and zeros up to a whole byte.
 -- Assumes nothing.
+use Rattle.std.proofs.Common.{Option, Result, Ok, Err}
+use Rattle.refusals.specs.declared.Refusal.{Refusal}
 use mathlib.Core.Path.{◌≡◌, refl, sym, ap, subst, ◌∙◌}
 use mathlib.Core.Bool.{Bool, true, false, ◌&&◌}
 use mathlib.Core.List.{List, [], ◌∷◌, ◌++◌}
@@ -17,9 +19,7 @@ use Rattle.laws.proofs.Cases.{from_some}
 use Rattle.laws.proofs.WroteLaws.{wrote_then}
 use Rattle.bits_write.specs.Text7.{last_or}
 use Rattle.bits_write.proofs.Text7Laws.{last_append}
-use Rattle.refusals.specs.Outcome.{Outcome, refused, answer}
-use Rattle.ax25_token.specs.declared.encode.Put.{Put}
-use Rattle.ax25_token.specs.declared.encode.Put.TheVariants.{Next, Bad}
+use Rattle.refusals.specs.Outcome.{Outcome, refused, answer, number, outcome_of}
 use Rattle.ax25_token.specs.Put.{Puts}
 use Rattle.ax25_token.specs.Token.{token_bits}
 use Rattle.ax25_token.proofs.PutLaws.{Gave, gave, bad}
@@ -29,8 +29,6 @@ use Rattle.ax25_address.specs.Types.{Text, call_len}
 use Rattle.ax25_address.proofs.RecordLaws.{Known}
 use Rattle.ax25_address.proofs.SizeLaws.{parse_size}
 use Rattle.ax25_aprs.specs.Put.{Does}
-use Rattle.ax25_aprs.specs.declared.part.Part.{Part}
-use Rattle.ax25_aprs.specs.declared.part.Part.TheVariants as part
 use Rattle.ax25_aprs.proofs.PartLaws.{Done, done, was_refused}
 use Rattle.ax25.specs.Codes.{Codes}
 use Rattle.ax25.specs.Encode.{digi_code, type_width, header_of, digi_bits, head_bits, info_bits, frame_bits, Coded, or_three, or_four, packed, code_parsed, encode_of}
@@ -95,11 +93,11 @@ module _ (command l : ℕ) (d : List ℕ) (s : Seen) (letters : l ≡ call_len c
 
   -- ---- the answers
 
-  module _ (t u : List ℕ) (r : Put) (f : (q : Parsed) → parse_of l d ≡ Some q → Puts (unpack t) 8 (head_bits l q (type_of command q)) (unpack u) r) where
-    pub bad_codes : r ≡ Bad → (v w : List ℕ) → Codes (encode_of command d) v w (part.Refused 4)
-    bad_codes e v w = rw (code_bad (bad (unpack t) 8 (unpack u) (head_bits l p typ) r e (f p k.parsed))) refl
+  module _ (t u : List ℕ) (r : Option ℕ) (f : (q : Parsed) → parse_of l d ≡ Some q → Puts (unpack t) 8 (head_bits l q (type_of command q)) (unpack u) r) where
+    pub bad_codes : r ≡ None → (v w : List ℕ) (a : Result ℕ Refusal) → outcome_of a ≡ refused 4 → Codes (encode_of command d) v w a
+    bad_codes e v w a h = rw (code_bad (bad (unpack t) 8 (unpack u) (head_bits l p typ) r e (f p k.parsed))) h
 
-    module _ (at : ℕ) (e : r ≡ Next at) where
+    module _ (at : ℕ) (e : r ≡ Some at) where
       -- the head
       abbrev first : Gave (head_bits l p typ) (unpack t) 8 (unpack u) at
       first = gave (unpack t) 8 (unpack u) (head_bits l p typ) r at e (f p k.parsed)
@@ -112,17 +110,17 @@ module _ (command l : ℕ) (d : List ℕ) (s : Seen) (letters : l ≡ call_len c
           let few : length p.digis * (6 * l + 4) ≤ 8 * (6 * l + 4) = mul-le-mul_right (6 * l + 4) size.few in
           omega (arith, first.wrote.next_is, m, few, size.few)
 
-      module _ (w : List ℕ) (a : Part)
+      module _ (w : List ℕ) (a : Result ℕ Refusal)
           (g : (q : Parsed) (head : List Bool) → parse_of l d ≡ Some q → at ≡ 8 + length head → (type_of command q ≡ Text → last_or false head ≡ false)
           → Does (info_bits l q (type_of command q) head) (unpack u) at (unpack w) a) where
         body : Does (info_bits l p typ first.bits) (unpack u) at (unpack w) a
         body = g p first.bits k.parsed first.wrote.next_is (λ z. head_last l p typ first.bits z first.is)
 
-        pub refused_codes : (n : ℕ) → a ≡ part.Refused n → (v x : List ℕ) → Codes (encode_of command d) v x (part.Refused n)
-        refused_codes n z v x =
-            rw (code_refused first.bits first.is n (was_refused (info_bits l p typ first.bits) (unpack u) at (unpack w) n (rw z at body))) refl
+        pub refused_codes : (e : Refusal) → a ≡ Err e → (v x : List ℕ) (r : Result ℕ Refusal) → outcome_of r ≡ refused (number e) → Codes (encode_of command d) v x r
+        refused_codes e z v x r h =
+            rw (code_refused first.bits first.is (number e) (was_refused (info_bits l p typ first.bits) (unpack u) at (unpack w) e (rw z at body))) h
 
-        module _ (next : ℕ) (z : a ≡ part.Next next) where
+        module _ (next : ℕ) (z : a ≡ Ok next) where
           abbrev second : Done (info_bits l p typ first.bits) (unpack u) at (unpack w) next
           second = done (info_bits l p typ first.bits) (unpack u) at (unpack w) next (rw z at body)
 
@@ -133,11 +131,11 @@ module _ (command l : ℕ) (d : List ℕ) (s : Seen) (letters : l ≡ call_len c
 
           pub message_codes : (h : ℕ) → h ≡ pick (eqb command 1) 0x10 0 + (pick (eqb s.ctrl 0x03 && eqb s.pid 0xF0) 0x40 0 + digi_code s.digis) → h < 0x80
               → (v : List ℕ) (m : ℕ) → Wrote v 0 (h ∷ []) t m → Bytes v → (x : List ℕ) (n : ℕ) → Wrote (unpack w) next (bits_of ((8 - next % 8) % 8) 0) (unpack x) n → Bytes x
-              → Codes (encode_of command d) v x (part.Next (n / 8))
+              → Codes (encode_of command d) v x (Ok (n / 8))
           message_codes h eh low v m byte hv x n pad hx =
               let b = first.bits ++ second.bits in
               let bits = wrote_then first.wrote second.wrote in
               let packed = pack_wrote b (byte_leaves (omega (arith, low)) hv byte) hx (pad_wrote b bits pad) in
               let whole = behind_byte byte packed in
               rw (code_answer first.bits first.is second.bits second.is_coded, ← header_is h eh)
-              (ap part.Next (whole.next_is ∙ zero-add (length (h ∷ pack b))), record { stored = whole.stored; next_is = sym (zero-add (length (h ∷ pack b))) })
+              (ap Ok (whole.next_is ∙ zero-add (length (h ∷ pack b))), record { stored = whole.stored; next_is = sym (zero-add (length (h ∷ pack b))) })

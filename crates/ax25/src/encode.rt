@@ -9,6 +9,7 @@ ghost use Rattle.ax25_token.specs.Put.{cased_of, Puts};
 ghost use Rattle.ax25_token.specs.Token.{token_bits};
 ghost use Rattle.ax25_address.specs.Address.{addr_call, heard_in};
 ghost use Rattle.ax25_address.specs.Kind.{type_number};
+ghost use Rattle.ax25_address.specs.Record.{alias_number};
 ghost use Rattle.ax25_address.specs.Parse.{Parsed, fields_of, parse_of, type_of, alias_of};
 ghost use Rattle.ax25_address.specs.Record.{record_of, seen_of};
 ghost use Rattle.ax25_address.specs.Types.{Text, call_len};
@@ -17,15 +18,14 @@ ghost use Rattle.ax25.specs.Codes.{Codes};
 ghost use Rattle.ax25.specs.Encode.{digi_code, type_width, tokens_bits, digi_bits, head_bits, info_bits, encode_of};
 
 use ax25_address::address::addr_call;
-use ax25_address::classify::{AprsType, code};
+use ax25_address::classify::AprsType;
 use ax25_address::parse::addr_end;
 use ax25_address::record::{PID_NO_L3, Record, UI_CTRL, call_len};
-use ax25_aprs::part::Part;
 use ax25_body::body::aprs_encode;
 use ax25_body::third::third_encode;
-use ax25_token::encode::{Put, put_call};
+use ax25_token::encode::put_call;
 use bits_write::{bit, byte, push, push_bytes, push_text7};
-use refusals::BAD_CALL;
+use refusals::Refusal;
 
 // The H bits of n digipeaters, of which f starts at the first. The next position.
 fn put_heard(f: &[u8], l: usize, n: usize, out: &mut [u8], at: usize) -> usize
@@ -40,7 +40,7 @@ fn put_heard(f: &[u8], l: usize, n: usize, out: &mut [u8], at: usize) -> usize
 }
 
 // The token of the call in an address field, as it is or in capitals.
-fn put_address(f: &[u8], l: usize, up: bool, out: &mut [u8], at: usize) -> Put
+fn put_address(f: &[u8], l: usize, up: bool, out: &mut [u8], at: usize) -> Option<usize>
     requires { (l < length f.now) × (l ≤ 7) × (at < 2 ^ 60) }
     ensures { Puts (unpack out.old) at (token_bits l (map (cased_of up) (addr_call l f.now))) (unpack out.new) result }
 {
@@ -48,34 +48,32 @@ fn put_address(f: &[u8], l: usize, up: bool, out: &mut [u8], at: usize) -> Put
 }
 
 // The tokens of n digipeaters, of which f starts at the first.
-fn put_tokens(f: &[u8], l: usize, n: usize, out: &mut [u8], at: usize) -> Put
+fn put_tokens(f: &[u8], l: usize, n: usize, out: &mut [u8], at: usize) -> Option<usize>
     requires { (n ≤ 8) × (2 ≤ l) × (l ≤ 7) × (n * (l + 1) ≤ length f.now) × (length f.now < 2 ^ 60) × (at + n * 100 < 2 ^ 60) }
     ensures { Puts (unpack out.old) at (tokens_bits l (map (addr_call l) (fields_of l n f.now))) (unpack out.new) result }
 {
     if n == 0 {
-        return Put::Next(at);
+        return Some(at);
     }
-    let Put::Next(p) = put_address(f, l, false, out, at) else {
-        return Put::Bad;
-    };
+    let p = put_address(f, l, false, out, at)?;
     put_tokens(&f[l + 1..], l, n - 1, out, p)
 }
 
 // The digipeaters: where the destination starts with AP a bit says whether they are an alias, else there are only tokens.
-fn put_digis(f: &[u8], l: usize, n: usize, ap: bool, alias: usize, out: &mut [u8], at: usize) -> Put
+fn put_digis(f: &[u8], l: usize, n: usize, ap: bool, alias: Option<usize>, out: &mut [u8], at: usize) -> Option<usize>
     requires { (n ≤ 8) × (2 ≤ l) × (l ≤ 7) × (n * (l + 1) ≤ length f.now) × (length f.now < 2 ^ 60) × (at < 2 ^ 59)
-        × (alias ≡ alias_of (map (addr_call l) (fields_of l n f.now))) }
+        × (alias_number alias ≡ alias_of (map (addr_call l) (fields_of l n f.now))) }
     ensures { Puts (unpack out.old) at (digi_bits l ap (map (addr_call l) (fields_of l n f.now))) (unpack out.new) result }
 {
     if n == 0 {
-        return Put::Next(at);
+        return Some(at);
     }
     if !ap {
         return put_tokens(f, l, n, out, at);
     }
-    let p = bit(out, at, 0 < alias);
-    if 0 < alias {
-        return Put::Next(push(out, p, alias as u64, 3));
+    let p = bit(out, at, alias.is_some());
+    if let Some(i) = alias {
+        return Some(push(out, p, i as u64 + 1, 3));
     }
     put_tokens(f, l, n, out, p)
 }
@@ -85,32 +83,21 @@ fn put_type(t: AprsType, ap: bool, out: &mut [u8], at: usize) -> usize
     requires { at < 2 ^ 62 }
     ensures { Wrote (unpack out.old) at (bits_of (type_width ap) (type_number t)) (unpack out.new) result }
 {
-    if ap {
-        return push(out, at, code(t) as u64, 3);
-    }
-    push(out, at, code(t) as u64, 1)
+    push(out, at, u64::from(u8::from(t)), if ap { 3 } else { 1 })
 }
 
 // The bits before the body, behind the header byte: H bits, destination, source, digipeaters, type.
-fn put_head(frame: &[u8], command: u8, l: usize, r: Record, out: &mut [u8]) -> Put
+fn put_head(frame: &[u8], command: u8, l: usize, r: Record, out: &mut [u8]) -> Option<usize>
     requires { (2 ≤ l) × (l ≤ 7) × (length frame.now < 2 ^ 56) × (Some (record_of r) ≡ seen_of command (parse_of l frame.now)) }
-    ensures { (p : Parsed) → parse_of l frame.now ≡ Some p
+    ensures { (p : Option<Record>) → parse_of l frame.now ≡ Some p
         → Puts (unpack out.old) 8 (head_bits l p (type_of command p)) (unpack out.new) result }
 {
-    let n = r.digis;
-    let ap = r.ap;
-    let typ = r.aprs_type;
-    let at = put_heard(&frame[2 * (l + 1)..], l, n, out, 8);
-    let Put::Next(p) = put_address(frame, l, true, out, at) else {
-        return Put::Bad;
-    };
-    let Put::Next(q) = put_address(&frame[l + 1..], l, true, out, p) else {
-        return Put::Bad;
-    };
-    let Put::Next(e) = put_digis(&frame[2 * (l + 1)..], l, n, ap, r.alias, out, q) else {
-        return Put::Bad;
-    };
-    Put::Next(put_type(typ, ap, out, e))
+    let digis = &frame[2 * (l + 1)..];
+    let at = put_heard(digis, l, r.digis, out, 8);
+    let p = put_address(frame, l, true, out, at)?;
+    let q = put_address(&frame[l + 1..], l, true, out, p)?;
+    let e = put_digis(digis, l, r.digis, r.ap, r.alias, out, q)?;
+    Some(put_type(r.aprs_type, r.ap, out, e))
 }
 
 // 08 and the number of digipeaters less one, or 0.
@@ -128,10 +115,7 @@ fn digi_code(n: usize) -> u8
 fn is_ui(ctrl: u8, pid: u8) -> bool
     ensures { result ≡ eqb ctrl 0x03 && eqb pid 0xF0 }
 {
-    if ctrl == UI_CTRL {
-        return pid == PID_NO_L3;
-    }
-    false
+    ctrl == UI_CTRL && pid == PID_NO_L3
 }
 
 // The header byte: 10 for Ax25Long, 40 for a UI frame, and the digipeaters.
@@ -163,38 +147,31 @@ fn body_start(end: usize, ctrl: u8, pid: u8) -> usize
 }
 
 // The body behind the bits of the head.
-fn put_body(frame: &[u8], command: u8, l: usize, r: Record, out: &mut [u8], at: usize) -> Part
+fn put_body(frame: &[u8], command: u8, l: usize, r: Record, out: &mut [u8], at: usize) -> Result<usize, Refusal>
     requires { (2 ≤ l) × (l ≤ 7) × (length frame.now ≤ 4999) × (at < 2 ^ 54) × (Some (record_of r) ≡ seen_of command (parse_of l frame.now)) }
-    ensures { (p : Parsed) (head : List Bool) → parse_of l frame.now ≡ Some p → at ≡ 8 + length head
+    ensures { (p : Option<Record>) (head : List Bool) → parse_of l frame.now ≡ Some p → at ≡ 8 + length head
         → (type_of command p ≡ Text → last_or false head ≡ false)
         → Does (info_bits l p (type_of command p) head) (unpack out.old) at (unpack out.new) result }
 {
-    let n = r.digis;
-    let typ = r.aprs_type;
-    let end = addr_end(n, l);
+    let end = addr_end(r.digis, l);
     let body = body_start(end, r.ctrl, r.pid);
     let start = end + 2;
-    match typ {
-        AprsType::Text => Part::Next(push_text7(out, at, false, &frame[body..])),
-        AprsType::Binary => Part::Next(push_bytes(out, at, &frame[body..])),
+    match r.aprs_type {
+        AprsType::Text => Ok(push_text7(out, at, false, &frame[body..])),
+        AprsType::Binary => Ok(push_bytes(out, at, &frame[body..])),
         AprsType::ThirdParty => third_encode(&frame[start..], l, out, at),
-        _ => aprs_encode(typ, &frame[start..], l, out, at),
+        typ => aprs_encode(typ, &frame[start..], l, out, at),
     }
 }
 
 // The message of a frame, whose record is r, as far as the output goes: its length, or the refusal's number.
-pub fn encode(frame: &[u8], command: u8, r: Record, out: &mut [u8]) -> Part
+pub fn encode(frame: &[u8], command: u8, r: Record, out: &mut [u8]) -> Result<usize, Refusal>
     requires { (length frame.now ≤ 4999) × (Some (record_of r) ≡ seen_of command (parse_of (call_len command) frame.now)) }
     ensures { Codes (encode_of command frame.now) out.old out.new result }
 {
     let l = call_len(command);
-    let n = r.digis;
-    byte(out, 0, header(command, is_ui(r.ctrl, r.pid), n));
-    let Put::Next(p) = put_head(frame, command, l, r, out) else {
-        return Part::Refused(BAD_CALL);
-    };
-    match put_body(frame, command, l, r, out, p) {
-        Part::Refused(k) => Part::Refused(k),
-        Part::Next(q) => Part::Next(push(out, q, 0, (8 - q % 8) % 8) / 8),
-    }
+    byte(out, 0, header(command, is_ui(r.ctrl, r.pid), r.digis));
+    let p = put_head(frame, command, l, r, out).ok_or(Refusal::BadCall)?;
+    let q = put_body(frame, command, l, r, out, p)?;
+    Ok(push(out, q, 0, (8 - q % 8) % 8) / 8)
 }

@@ -1,7 +1,7 @@
 -- The bytes of a call's address field, by place, and the field with marks in its last byte.
 -- Assumes nothing.
-use mathlib.Core.Path.{◌≡◌, sym, ap, ◌∙◌}
-use mathlib.Core.Bool.{true, false}
+use mathlib.Core.Path.{◌≡◌, refl, sym, ap, ◌∙◌}
+use mathlib.Core.Bool.{and-true, and-false}
 use mathlib.Core.List.{List, [], ◌∷◌, ◌++◌, map}
 use Prim.Native.Nat.{ℕ, suc, ◌+◌, ◌-◌, ◌*◌, ◌%◌, ◌≤◌, ◌<◌}
 use native.Mathlib.Numerals.{add-one}
@@ -9,6 +9,7 @@ use native.Mathlib.Omega.{arith}
 use lib.Bits.{bit_or}
 use lib.ListN.{length, take, drop, get_or, set, replicate, length-map, drop_of_length-le, get_or-replicate, get_or-append, get_or-map}
 use lib.Seq.{get_or_at, set_at, get_or-take, get_or-append-add}
+use lib.Dec.{eqb}
 use Rattle.laws.specs.Pick.{pick}
 use Rattle.laws.specs.Text.{ascii, between, upper, same}
 use Rattle.laws.specs.Wrote.{Wrote}
@@ -52,29 +53,19 @@ module _ (l : ℕ) (b : List ℕ) (i : ℕ) (h : i < l) where
 
 -- ---- the SSID
 
-module _ (s : List ℕ) where
-  pub ssid_t : same s (ascii "T") ≡ true → 16 ≡ ssid_of s
-  unfolding ssid_of pick
-  ssid_t t = rw t
+-- one letter, and any other text
+pub ssid_one : (s : List ℕ) → length s ≡ 1
+    → ssid_of s ≡ pick (eqb (get_or s 0 0) 84) 16 (pick (eqb (get_or s 0 0) 82) 17 (pick (eqb (get_or s 0 0) 88) 18 (pick (eqb (get_or s 0 0) 76) 19 (val_of s))))
+unfolding ssid_of same
+ssid_one [] h = absurd (omega arith)
+ssid_one (x ∷ []) h = simp and-true
+ssid_one (x ∷ y ∷ s) h = absurd (omega arith)
 
-  module _ (t : same s (ascii "T") ≡ false) where
-    pub ssid_r : same s (ascii "R") ≡ true → 17 ≡ ssid_of s
-    unfolding ssid_of pick
-    ssid_r r = rw (t, r)
-
-    module _ (r : same s (ascii "R") ≡ false) where
-      pub ssid_x : same s (ascii "X") ≡ true → 18 ≡ ssid_of s
-      unfolding ssid_of pick
-      ssid_x x = rw (t, r, x)
-
-      module _ (x : same s (ascii "X") ≡ false) where
-        pub ssid_l : same s (ascii "L") ≡ true → 19 ≡ ssid_of s
-        unfolding ssid_of pick
-        ssid_l l = rw (t, r, x, l)
-
-        pub ssid_number : same s (ascii "L") ≡ false → val_of s ≡ ssid_of s
-        unfolding ssid_of pick
-        ssid_number l = rw (t, r, x, l)
+pub ssid_other : (s : List ℕ) → (length s ≡ 1 → ⊥) → ssid_of s ≡ val_of s
+unfolding ssid_of same pick
+ssid_other [] h = refl
+ssid_other (x ∷ []) h = absurd (h refl)
+ssid_other (x ∷ y ∷ s) h = simp and-false
 
 module _ (c : List ℕ) (k : ℕ) (e : k ≡ length (base_of c)) where
   pub ssid_none : length c ≤ k → 0 ≡ double (ssid_of (behind c))

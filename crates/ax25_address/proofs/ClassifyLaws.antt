@@ -1,4 +1,4 @@
--- The tests of the type: the first two bytes as one test, and the scans step by step.
+-- The tests of the type: the scans step by step.
 -- Assumes nothing.
 use mathlib.Core.Path.{◌≡◌, ap₂, ◌∙◌}
 use mathlib.Core.Bool.{Bool, true, false, ◌&&◌, ◌||◌, and_assoc}
@@ -15,18 +15,6 @@ use Rattle.laws.specs.Pick.{pick}
 use Rattle.laws.specs.Text.{is_digit}
 use Rattle.laws.proofs.Cases.{by_test, by_le}
 use Rattle.ax25_address.specs.Classify.{any_high, one_of, marks_at, is_position, is_timestamped, stops_at, ends_at, tally, scan_third}
-
--- ---- with an answer r for the first two bytes
-
-module _ (d : List ℕ) {r : Bool} where
-  pub position_opens : r ≡ (one_of (get_or d 0 0) 0x21 0x3D && is_digit (get_or d 1 0)) → is_position d ≡ (leb 20 (length d) && (r && marks_at 1 d))
-  unfolding is_position
-  position_opens e = rw (e, and_assoc)
-
-  pub timestamped_opens : r ≡ (one_of (get_or d 0 0) 0x40 0x2F && is_digit (get_or d 1 0))
-      → is_timestamped d ≡ (leb 27 (length d) && (r && (eqb (get_or d 7 0) 0x68 && marks_at 8 d)))
-  unfolding is_timestamped
-  timestamped_opens e = rw (e, and_assoc)
 
 -- ---- one bit of two bytes together
 

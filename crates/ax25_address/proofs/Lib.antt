@@ -7,5 +7,6 @@ pub mod LetterLaws
 pub mod ParseLaws
 pub mod PlaceLaws
 pub mod RecordLaws
+pub mod SliceLaws
 pub mod SizeLaws
 pub mod WhiteLaws

@@ -14,10 +14,7 @@ use Rattle.laws.specs.Pick.{pick}
 use Rattle.laws.specs.Text.{upper}
 use Rattle.laws.proofs.Cases.{by_test, from_some}
 use Rattle.ax25_address.specs.Address.{addr_call, heard_in}
-use Rattle.ax25_address.specs.Digis.{digis_of}
 use Rattle.ax25_address.specs.Parse.{split_off, Parsed, digi_fields, fields_of, parse_of, count_of}
-use Rattle.ax25_address.specs.declared.parse.Digis.{Digis}
-use Rattle.ax25_address.specs.declared.parse.Digis.TheVariants.{Found, Short}
 use Rattle.ax25_address.proofs.SizeLaws.{split_is, parse_by, parse_size}
 
 -- ---- an address field is read no further than it goes
@@ -113,9 +110,9 @@ unfolding count_of
 short_by None h = refl
 short_by (Some p) h = absurd (none-some (length p.digis) h)
 
-module _ (l : ℕ) (d : List ℕ) (r : Digis) (told : digis_of r ≡ count_of (parse_of l d)) where
-  pub found_has : (n : ℕ) → r ≡ Found n → Has l d n
-  found_has n e = has_by l d n (parse_of l d) refl (sym (ap digis_of e) ∙ told)
+module _ (l : ℕ) (d : List ℕ) (r : Option ℕ) (told : r ≡ count_of (parse_of l d)) where
+  pub found_has : (n : ℕ) → r ≡ Some n → Has l d n
+  found_has n e = has_by l d n (parse_of l d) refl (sym e ∙ told)
 
-  pub short_none : r ≡ Short → parse_of l d ≡ None
-  short_none e = short_by (parse_of l d) (sym (ap digis_of e) ∙ told)
+  pub short_none : r ≡ None → parse_of l d ≡ None
+  short_none e = short_by (parse_of l d) (sym e ∙ told)

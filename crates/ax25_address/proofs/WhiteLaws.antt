@@ -1,4 +1,4 @@
--- White space by ranges, trimming from the end byte by byte, and from both ends.
+-- Trimming from the end byte by byte, and from both ends.
 -- Assumes nothing.
 use mathlib.Core.Path.{◌≡◌, sym, ap, ◌∙◌}
 use mathlib.Core.Bool.{Bool, true, false}
@@ -15,36 +15,6 @@ use Rattle.laws.proofs.Cases.{by_le}
 use Rattle.laws.proofs.ListLaws.{from_place}
 use Rattle.laws.proofs.TrimLaws.{end_on, end_here}
 use Rattle.ax25_address.specs.Address.{white, blank, white_in}
-
--- ---- white space by ranges
-
-module _ (x : ℕ) where
-  pub white_low : (call : Bool) → x < 9 → false ≡ white_in call x
-  unfolding white blank between pick
-  white_low true h = rw (lt-leb 9 x h, lt-leb 28 x (omega arith))
-  white_low false h = rw (lt-leb 9 x h, ne_eqb x 32 (λ e. omega arith))
-
-  pub white_first : (call : Bool) → 9 ≤ x → x ≤ 13 → true ≡ white_in call x
-  unfolding white blank between pick
-  white_first true h k = rw (le-leb 9 x h, le-leb x 13 k)
-  white_first false h k = rw (le-leb 9 x h, le-leb x 13 k)
-
-  pub white_middle : (call : Bool) → 13 < x → x < 28 → false ≡ white_in call x
-  unfolding white blank between pick
-  white_middle true h k = rw (lt-leb x 13 h, le-leb 9 x (omega arith), lt-leb 28 x k)
-  white_middle false h k = rw (lt-leb x 13 h, le-leb 9 x (omega arith), ne_eqb x 32 (λ e. omega arith))
-
-  pub white_call : (call : Bool) → 28 ≤ x → x < 32 → call ≡ white_in call x
-  unfolding white blank between pick
-  white_call true h k = rw (lt-leb x 13 (omega arith), le-leb 9 x (omega arith), le-leb 28 x h, le-leb x 32 (omega arith))
-  white_call false h k = rw (lt-leb x 13 (omega arith), le-leb 9 x (omega arith), ne_eqb x 32 (λ e. omega arith))
-
-  pub white_last : (call : Bool) → 32 ≤ x → eqb x 32 ≡ white_in call x
-  unfolding white blank between pick
-  white_last true h =
-      rw (lt-leb x 13 (omega arith), le-leb 9 x (omega arith), le-leb 28 x (omega arith))
-      (by_le x 32 (λ k. rw (eq-eqb x 32 (omega arith), le-leb x 32 k)) (λ k. rw (ne_eqb x 32 (λ e. omega arith), lt-leb x 32 k)))
-  white_last false h = rw (lt-leb x 13 (omega arith), le-leb 9 x (omega arith))
 
 -- ---- byte by byte from the end
 

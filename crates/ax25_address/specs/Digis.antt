@@ -1,15 +1,8 @@
--- The answer of `digipeaters`, and the digipeaters that are left to count.
+-- The digipeaters that are left to count.
 -- Assumes nothing.
 use Rattle.std.specs.Prelude.{List, ℕ, ◌+◌, ◌-◌, ◌*◌, length, get_or, drop}
 use Rattle.std.specs.Prelude.{Option, None, Some}
 use Rattle.ax25_address.specs.Parse.{digi_fields}
-use Rattle.ax25_address.specs.declared.parse.Digis.{Digis}
-use Rattle.ax25_address.specs.declared.parse.Digis.TheVariants.{Found, Short}
-
--- how many digipeaters; nothing where the frame is short
-abbrev pub digis_of : Digis → Option ℕ
-digis_of (Found n) = Some n
-digis_of Short = None
 
 -- n, and the fields that follow
 unfoldable pub counted : ℕ → Option (List (List ℕ) × List ℕ) → Option ℕ

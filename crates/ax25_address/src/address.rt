@@ -16,10 +16,8 @@ fn halved(f: &[u8], l: usize) -> Call
         bytes: [32u8; 16],
         len: 0,
     };
-    let mut i = 0;
-    while i < l {
-        c = push(c, f[i] / 2);
-        i += 1;
+    for x in &f[0..l] {
+        c = push(c, *x / 2);
     }
     c
 }
@@ -30,8 +28,6 @@ pub fn addr_call(f: &[u8], l: usize, up: bool) -> Call
     ensures { (text_of result ≡ map (cased_of up) (addr_call l f.now)) × (result.len ≤ 10) }
 {
     let h = halved(f, l);
-    let bytes = h.bytes;
-    let n = h.len;
-    let c = trimmed_as(&bytes[0..n], up);
-    suffixed(c, (f[l] / 2 % 16) as u64)
+    let c = trimmed_as(&h.bytes[0..h.len], up);
+    suffixed(c, u64::from(f[l] / 2 % 16))
 }

@@ -4,31 +4,41 @@ ghost use Rattle.laws.specs.Text.{ascii, same};
 ghost use Rattle.ax25_token.specs.Call.{text_of, empty, appended};
 ghost use Rattle.ax25_address.specs.Address.{addr_call};
 ghost use Rattle.ax25_address.specs.Parse.{aliases, alias_calls, same_all, alias_of, fields_of};
+ghost use Rattle.ax25_address.specs.Record.{alias_number};
 
 use crate::address::addr_call;
-use ax25_token::encode::same;
 use ax25_token::{Call, push};
 
-// ALIASES of the source, and their lengths.
-const ALIASES: [[u8; 16]; 5] = [
-    *b"WIDE            ",
-    *b"PNW             ",
-    *b"MW              ",
-    *b"OR              ",
-    *b"WA              ",
+// ALIASES of the source.
+const ALIASES: [Call; 5] = [
+    Call {
+        bytes: *b"WIDE            ",
+        len: 4,
+    },
+    Call {
+        bytes: *b"PNW             ",
+        len: 3,
+    },
+    Call {
+        bytes: *b"MW              ",
+        len: 2,
+    },
+    Call {
+        bytes: *b"OR              ",
+        len: 2,
+    },
+    Call {
+        bytes: *b"WA              ",
+        len: 2,
+    },
 ];
-
-const LENGTHS: [usize; 5] = [4, 3, 2, 2, 2];
 
 // The name of an alias, counted from 0.
 fn alias_name(i: usize) -> Call
     requires { i < 5 }
     ensures { (result ≡ appended empty (get_or aliases i [])) × (result.len ≤ 4) }
 {
-    Call {
-        bytes: ALIASES[i],
-        len: LENGTHS[i],
-    }
+    ALIASES[i]
 }
 
 // The k-th call of an alias: its name, the digit k and "-1".
@@ -38,8 +48,7 @@ pub fn alias_call(i: usize, k: usize) -> Call
 {
     let c = alias_name(i);
     let d = push(c, (48 + k) as u8);
-    let e = push(d, b'-');
-    push(e, b'1')
+    push(push(d, b'-'), b'1')
 }
 
 // The same text.
@@ -47,11 +56,7 @@ fn same_call(c: Call, d: Call) -> bool
     requires { (c.len ≤ 16) × (d.len ≤ 16) }
     ensures { result ≡ same (text_of c) (text_of d) }
 {
-    let x = c.bytes;
-    let m = c.len;
-    let y = d.bytes;
-    let n = d.len;
-    same(&x[0..m], &y[0..n])
+    &c.bytes[0..c.len] == &d.bytes[0..d.len]
 }
 
 // The field's call is the k-th call of an alias.
@@ -59,9 +64,7 @@ fn is_alias(f: &[u8], l: usize, i: usize, k: usize) -> bool
     requires { (l < length f.now) × (l ≤ 7) × (i < 5) × (k ≤ 9) }
     ensures { result ≡ same (addr_call l f.now) (get_or aliases i [] ++ ((48 + k) ∷ ascii "-1")) }
 {
-    let c = addr_call(f, l, false);
-    let d = alias_call(i, k);
-    same_call(c, d)
+    same_call(addr_call(f, l, false), alias_call(i, k))
 }
 
 // The calls of n fields are those of an alias, from its k-th on.
@@ -69,13 +72,7 @@ fn are_alias(f: &[u8], l: usize, n: usize, i: usize, k: usize) -> bool
     requires { (k + n ≤ 9) × (l ≤ 7) × (i < 5) × (n * (l + 1) ≤ length f.now) × (length f.now < 2 ^ 60) }
     ensures { result ≡ same_all (map (addr_call l) (fields_of l n f.now)) (alias_calls (get_or aliases i []) k n) }
 {
-    if n == 0 {
-        return true;
-    }
-    if !is_alias(f, l, i, k) {
-        return false;
-    }
-    are_alias(&f[l + 1..], l, n - 1, i, k + 1)
+    n == 0 || is_alias(f, l, i, k) && are_alias(&f[l + 1..], l, n - 1, i, k + 1)
 }
 
 // The calls of n fields, of which c is the first, are those of an alias.
@@ -84,27 +81,22 @@ fn is_path(c: Call, f: &[u8], l: usize, n: usize, i: usize) -> bool
     requires n_nonzero { (0 < n) × (n ≤ 8) × (l ≤ 7) × (i < 5) × (n * (l + 1) ≤ length f.now) × (length f.now < 2 ^ 60) }
     ensures { result ≡ same_all (map (addr_call l) (fields_of l n f.now)) (alias_calls (get_or aliases i []) 1 n) }
 {
-    if !same_call(c, alias_call(i, 1)) {
-        return false;
-    }
-    are_alias(&f[l + 1..], l, n - 1, i, 2)
+    same_call(c, alias_call(i, 1)) && are_alias(&f[l + 1..], l, n - 1, i, 2)
 }
 
-// The number of the alias whose calls the n digipeaters are, from 1 on, or 0. f starts at the first of them.
-pub fn alias(f: &[u8], l: usize, n: usize) -> usize
+// The alias whose calls the n digipeaters are, counted from 0. f starts at the first of them.
+pub fn alias(f: &[u8], l: usize, n: usize) -> Option<usize>
     requires { (n ≤ 8) × (l ≤ 7) × (n * (l + 1) ≤ length f.now) × (length f.now < 2 ^ 60) }
-    ensures { (result ≡ alias_of (map (addr_call l) (fields_of l n f.now))) × (result ≤ 5) }
+    ensures { (alias_number result ≡ alias_of (map (addr_call l) (fields_of l n f.now))) × (alias_number result ≤ 5) }
 {
     if n == 0 {
-        return 0;
+        return None;
     }
     let first = addr_call(f, l, false);
-    let mut i = 0;
-    while i < 5 {
+    for i in 0..5 {
         if is_path(first, f, l, n, i) {
-            return i + 1;
+            return Some(i);
         }
-        i += 1;
     }
-    0
+    None
 }

@@ -8,7 +8,7 @@ ghost use Rattle.ax25_token.specs.Token.{base_of, behind};
 ghost use Rattle.ax25_address.specs.Address.{double, cut_to, ssid_of, call_bytes};
 
 use ax25_token::Call;
-use ax25_token::encode::{cased, hyphen, same};
+use ax25_token::encode::{cased, hyphen};
 use bits_write::byte;
 
 // A byte of the letters of a field: a capital, or a blank behind the last, shifted.
@@ -16,10 +16,11 @@ fn letter_byte(b: &[u8], i: usize, l: usize) -> u8
     requires { i < l }
     ensures { result ≡ get_or (map double (cut_to l (map upper b.now))) i 0 }
 {
-    if b.len() <= i {
-        return 64;
+    if i < b.len() {
+        cased(b[i], true) % 128 * 2
+    } else {
+        b' ' * 2
     }
-    cased(b[i], true) % 128 * 2
 }
 
 // The letters of a field: capitals, blanks up to l, shifted. The next place.
@@ -29,31 +30,24 @@ fn put_base(b: &[u8], l: usize, out: &mut [u8], to: usize) -> usize
     ensures upper_bound { result ≤ to + 7 }
 {
     let mut next = to;
-    let mut i = 0;
-    while i < l {
+    for i in 0..l {
         next = byte(out, next, letter_byte(b, i, l));
-        i += 1;
     }
     next
 }
 
 // The number of an SSID: four letters have their own.
+#[tactic(auto, using(crate::proofs::CallField::ssid_one, crate::proofs::CallField::ssid_other), unfolding(laws::specs::Pick::pick))]
 fn ssid_of(s: &[u8]) -> u64
     ensures { result ≡ ssid_of s.now }
 {
-    if same(s, b"T") {
-        return 16;
+    match s {
+        [b'T'] => 16,
+        [b'R'] => 17,
+        [b'X'] => 18,
+        [b'L'] => 19,
+        _ => bits::vb_val(s),
     }
-    if same(s, b"R") {
-        return 17;
-    }
-    if same(s, b"X") {
-        return 18;
-    }
-    if same(s, b"L") {
-        return 19;
-    }
-    bits::vb_val(s)
 }
 
 // The SSID behind a hyphen at k, shifted; 0 where there is none.
@@ -82,7 +76,5 @@ pub fn call_bytes(c: Call, l: usize, mark: u8, out: &mut [u8], to: usize) -> usi
     requires { (c.len ≤ 16) × (l ≤ 7) × (to < 2 ^ 60) }
     ensures { Wrote out.old to (set (call_bytes l (text_of c)) l (bit_or (get_or (call_bytes l (text_of c)) l 0) mark)) out.new result }
 {
-    let bytes = c.bytes;
-    let n = c.len;
-    text_bytes(&bytes[0..n], l, mark, out, to)
+    text_bytes(&c.bytes[0..c.len], l, mark, out, to)
 }

@@ -10,7 +10,7 @@ ghost use Rattle.ax25_address.specs.Types.{call_len};
 use crate::address::addr_call;
 use crate::alias::alias;
 use crate::classify::{AprsType, classify};
-use crate::parse::{Digis, addr_end, digipeaters};
+use crate::parse::{addr_end, digipeaters};
 use ax25_token::encode::call_starts;
 
 // Control of a UI frame, and the PID of no layer 3.
@@ -19,31 +19,22 @@ pub const UI_CTRL: u8 = 0x03;
 pub const PID_NO_L3: u8 = 0xF0;
 
 // The source's record of a frame, without its addresses.
-#[derive(Clone, Copy)]
+#[derive(Clone, Copy, Debug, PartialEq, Eq)]
 pub struct Record {
     pub digis: usize,
     pub ap: bool,
     pub ctrl: u8,
     pub pid: u8,
-    pub alias: usize,
+    pub alias: Option<usize>,
     pub aprs_type: AprsType,
 }
 
-// The record, or a frame that is short.
-#[derive(Clone, Copy)]
-pub enum Parsed {
-    Found(Record),
-    Short,
-}
-
 // The letters of a call: 7 under Ax25Long.
+#[tactic(auto, unfolding(laws::specs::Pick::pick))]
 pub fn call_len(command: u8) -> usize
     ensures { result ≡ call_len command }
 {
-    if command == 1 {
-        return 7;
-    }
-    6
+    if command == 1 { 7 } else { 6 }
 }
 
 // The destination starts with AP.
@@ -58,10 +49,7 @@ fn is_ap(frame: &[u8], l: usize) -> bool
 fn typed(ap: bool, command: u8) -> bool
     ensures { result ≡ ap && not (eqb command 1) }
 {
-    if command == 1 {
-        return false;
-    }
-    ap
+    ap && command != 1
 }
 
 // The record of a frame with n digipeaters.
@@ -82,15 +70,13 @@ fn found(frame: &[u8], l: usize, n: usize, ap: bool, typed: bool) -> Record
     }
 }
 
-// The record of a frame under Ax25 or Ax25Long.
-pub fn parse(frame: &[u8], command: u8) -> Parsed
+// The record of a frame under Ax25 or Ax25Long. None where the frame is short.
+pub fn parse(frame: &[u8], command: u8) -> Option<Record>
     requires { length frame.now < 2 ^ 60 }
     ensures { found_of result ≡ seen_of command (parse_of (call_len command) frame.now) }
 {
     let l = call_len(command);
-    let Digis::Found(n) = digipeaters(frame, l) else {
-        return Parsed::Short;
-    };
+    let n = digipeaters(frame, l)?;
     let ap = is_ap(frame, l);
-    Parsed::Found(found(frame, l, n, ap, typed(ap, command)))
+    Some(found(frame, l, n, ap, typed(ap, command)))
 }

@@ -9,50 +9,39 @@ use ax25_token::Call;
 use ax25_token::encode::cased;
 
 // White space around a call, or around an altitude.
+#[tactic(auto, unfolding(crate::specs::Address::white, crate::specs::Address::blank, laws::specs::Text::between, laws::specs::Pick::pick))]
 pub fn is_white(c: u8, call: bool) -> bool
     ensures { result ≡ white_in call c }
 {
-    if c < 9 {
-        return false;
+    match c {
+        9..=13 | 32 => true,
+        28..=31 => call,
+        _ => false,
     }
-    if c <= 13 {
-        return true;
-    }
-    if c < 28 {
-        return false;
-    }
-    if c < 32 {
-        return call;
-    }
-    c == 32
 }
 
 // Where the text starts: at the first byte that is no white space, or behind the last.
 pub fn front(s: &[u8], call: bool) -> usize
     ensures { (result ≤ length s.now) × (drop result s.now ≡ trim_front (white_in call) s.now) }
 {
-    let mut i = 0;
-    while i < s.len() {
-        if !is_white(s[i], call) {
+    for (i, c) in s.iter().enumerate() {
+        if !is_white(*c, call) {
             return i;
         }
-        i += 1;
     }
-    i
+    s.len()
 }
 
 // Where the text ends: behind the last byte that is no white space.
 pub fn end(s: &[u8], call: bool) -> usize
     ensures { (result ≤ length s.now) × (take result s.now ≡ trim_end (white_in call) s.now) }
 {
-    let mut i = s.len();
-    while 0 < i {
-        if !is_white(s[i - 1], call) {
-            return i;
+    for i in (0..s.len()).rev() {
+        if !is_white(s[i], call) {
+            return i + 1;
         }
-        i -= 1;
     }
-    i
+    0
 }
 
 // A text as a call, as it is or in capitals.
@@ -61,12 +50,13 @@ fn copied(s: &[u8], up: bool) -> Call
     ensures { (result ≡ appended empty (map (cased_of up) s.now)) × (result.len ≡ length s.now) }
 {
     let mut bytes = [32u8; 16];
-    let mut i = 0;
-    while i < s.len() {
-        bytes[i] = cased(s[i], up);
-        i += 1;
+    for (i, c) in s.iter().enumerate() {
+        bytes[i] = cased(*c, up);
     }
-    Call { bytes, len: i }
+    Call {
+        bytes,
+        len: s.len(),
+    }
 }
 
 // The text without white space around it as a call, as it is or in capitals.

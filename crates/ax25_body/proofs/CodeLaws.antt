@@ -1,5 +1,7 @@
 -- The ways through the coders of bodies.
 -- Assumes nothing.
+use Rattle.std.proofs.Common.{Result, Err}
+use Rattle.refusals.specs.declared.Refusal.{Refusal}
 use mathlib.Core.Path.{◌≡◌, refl, ap, ◌∙◌}
 use mathlib.Core.Bool.{Bool, false}
 use mathlib.Core.List.{List}
@@ -11,7 +13,7 @@ use borrow.Author.Tests.{ne_eqb}
 use Rattle.laws.specs.Pick.{pick}
 use Rattle.laws.proofs.Cases.{by_le}
 use Rattle.laws.proofs.ListLaws.{from_place}
-use Rattle.refusals.specs.Outcome.{Outcome}
+use Rattle.refusals.specs.Outcome.{Outcome, number}
 use Rattle.ax25_token.specs.Token.{token_bits}
 use Rattle.ax25_token.proofs.PutLaws.{Gave}
 use Rattle.ax25_address.specs.declared.classify.AprsType.{AprsType}
@@ -24,8 +26,6 @@ use Rattle.ax25_aprs.specs.LatLon.{latlon_bits}
 use Rattle.ax25_aprs.specs.Put.{Does}
 use Rattle.ax25_aprs.specs.Text.{text_bits}
 use Rattle.ax25_aprs.specs.Third.{call_part}
-use Rattle.ax25_aprs.specs.declared.part.Part.{Part}
-use Rattle.ax25_aprs.specs.declared.part.Part.TheVariants.{Refused}
 use Rattle.ax25_aprs.proofs.PartLaws.{does_then}
 use Rattle.ax25_aprs.proofs.Sizes.{part_most}
 use Rattle.ax25_aprs.proofs.ValueLaws.{take_min}
@@ -51,11 +51,11 @@ rest_min s k n e =
 -- ---- a call, and what follows it
 
 module _ (k : ℕ) (o : Option (List Bool)) (q : Outcome (List Bool)) (b : List Bool) (at : ℕ) (d : List Bool) where
-  pub does_gave : (c : List Bool) (p : ℕ) (r : Part) → Gave o b at c p → Does q c p d r → Does (or_refused k o then q) b at d r
+  pub does_gave : (c : List Bool) (p : ℕ) (r : Result ℕ Refusal) → Gave o b at c p → Does q c p d r → Does (or_refused k o then q) b at d r
   does_gave c p r g h = rw g.is (does_then g.wrote q d r h)
 
-  pub does_bad : o ≡ None → Does (or_refused k o then q) b at d (Refused k)
-  does_bad e = rw e refl
+  pub does_bad : (x : Refusal) → number x ≡ k → o ≡ None → Does (or_refused k o then q) b at d (Err x)
+  does_bad x n e = rw (e, n)
 
 -- a call from at most ten bytes takes at most 64 bits
 pub gave_near : (l : ℕ) → 2 ≤ l → l ≤ 7 → (s : List ℕ) → length s ≤ 10 → (b : List Bool) (at : ℕ) (c : List Bool) (p : ℕ)

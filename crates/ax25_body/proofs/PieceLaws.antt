@@ -1,5 +1,8 @@
 -- The ways through the coder of third-party bodies.
 -- Assumes nothing.
+use Rattle.std.proofs.Common.{Option, Some, Result, Ok, Err}
+use Rattle.refusals.specs.declared.Refusal.{Refusal}
+use Rattle.refusals.specs.declared.Refusal.TheVariants as refusal
 use mathlib.Core.Path.{◌≡◌, refl, sym, ap, subst, ◌∙◌}
 use mathlib.Core.Bool.{Bool, true, false, ◌&&◌}
 use mathlib.Core.List.{List, [], ◌∷◌}
@@ -12,7 +15,7 @@ use lib.Dec.{eqb}
 use Rattle.laws.specs.Bits.{bits_of}
 use Rattle.laws.specs.Pick.{pick}
 use Rattle.laws.specs.Text.{is_digit}
-use Rattle.refusals.specs.Outcome.{Outcome, refused, answer}
+use Rattle.refusals.specs.Outcome.{Outcome, refused, answer, number}
 use Rattle.ax25_token.specs.Token.{token_bits}
 use Rattle.ax25_token.proofs.PutLaws.{Gave}
 use Rattle.ax25_address.specs.Classify.{one_of}
@@ -21,16 +24,11 @@ use Rattle.ax25_aprs.specs.Body.{call_of, body_bits}
 use Rattle.ax25_aprs.specs.Coded.{◌then◌, or_refused}
 use Rattle.ax25_aprs.specs.Put.{Does, span_in, field_in, Within}
 use Rattle.ax25_aprs.specs.Third.{Field, short, collect_of, call_part, call_field, inner_bits, last_field, path_field, third_bits, inner_type}
-use Rattle.ax25_aprs.specs.declared.part.Part.{Part}
 use Rattle.ax25_aprs.specs.declared.third.Span.{Span}
-use Rattle.ax25_aprs.specs.declared.third.Collected.{Collected}
-use Rattle.ax25_aprs.specs.declared.third.Collected.TheVariants.{Found, Short}
 use Rattle.ax25_aprs.proofs.PartLaws.{does_then}
 use Rattle.ax25_aprs.proofs.Sizes.{part_most}
 use Rattle.ax25_body.specs.Read.{after_type, inner_number, second_bits}
 use Rattle.ax25_body.specs.Pass.{Coded, Uncoded, Codes}
-use Rattle.ax25_body.specs.declared.third.Piece.{Piece}
-use Rattle.ax25_body.specs.declared.third.Piece.TheVariants.{Next, Refused}
 
 -- `&d[0..n]`
 pub front_of : (n : ℕ) (d : List ℕ) → take (n - 0) d ≡ take n d
@@ -38,14 +36,14 @@ front_of n d = let e : n - 0 ≡ n = omega arith in ap (λ (m : ℕ). take m d) 
 
 -- ---- what `collect` found
 
-module _ (k : ℕ) (d : List ℕ) (r : Collected) where
-  pub found_is : (f : Field) (s : Span) → r ≡ Found s → field_in d r ≡ f → f ≡ span_in d s.end s.next
+module _ (k : ℕ) (d : List ℕ) (r : Option Span) where
+  pub found_is : (f : Field) (s : Span) → r ≡ Some s → field_in d r ≡ f → f ≡ span_in d s.end s.next
   found_is f s e h = sym h ∙ ap (field_in d) e
 
-  pub found_within : (s : Span) → r ≡ Found s → Within k d r → (s.end ≤ k) × (s.end ≤ length d) × (s.next ≤ length d)
+  pub found_within : (s : Span) → r ≡ Some s → Within k d r → (s.end ≤ k) × (s.end ≤ length d) × (s.next ≤ length d)
   found_within s e h = subst (Within k d) e h
 
-  pub found_short : (f : Field) → r ≡ Short → field_in d r ≡ f → f ≡ short
+  pub found_short : (f : Field) → r ≡ None → field_in d r ≡ f → f ≡ short
   found_short f e h = sym h ∙ ap (field_in d) e
 
 -- ---- the definitions by where a field ends
@@ -92,26 +90,26 @@ path_short l f e = rw e
 -- ---- an answer of a field
 
 module _ (l : ℕ) (f : Field) (d : List ℕ) (b : List Bool) (at : ℕ) (c : List Bool) where
-  pub coded : (r : Piece) (i p : ℕ) → r ≡ Next i p → Codes l f d b at c r → Coded l f d b at c i p
+  pub coded : (r : Result (ℕ × ℕ) Refusal) (i p : ℕ) → r ≡ Ok (i, p) → Codes l f d b at c r → Coded l f d b at c i p
   unfolding Codes
-  coded r i p e h = subst (λ (t : Piece). Codes l f d b at c t) e h
+  coded r i p e h = subst (λ (t : Result (ℕ × ℕ) Refusal). Codes l f d b at c t) e h
 
-  pub uncoded : (r : Piece) (n : ℕ) → r ≡ Refused n → Codes l f d b at c r → Uncoded l f n
+  pub uncoded : (r : Result (ℕ × ℕ) Refusal) (e : Refusal) → r ≡ Err e → Codes l f d b at c r → Uncoded l f (number e)
   unfolding Codes
-  uncoded r n e h = subst (λ (t : Piece). Codes l f d b at c t) e h
+  uncoded r n e h = subst (λ (t : Result (ℕ × ℕ) Refusal). Codes l f d b at c t) e h
 
-  pub codes_short : f ≡ short → Codes l f d b at c (Refused 3)
+  pub codes_short : f ≡ short → Codes l f d b at c (Err refusal.Short)
   unfolding Codes call_field last_field
   codes_short e = record { call = λ x next. rw e; last = λ x. rw e }
 
-  pub codes_bad : (end i : ℕ) → f ≡ span_in d end i → token_bits l (call_of (take end d)) ≡ None → Codes l f d b at c (Refused 4)
+  pub codes_bad : (end i : ℕ) → f ≡ span_in d end i → token_bits l (call_of (take end d)) ≡ None → Codes l f d b at c (Err refusal.BadCall)
   unfolding Codes call_part
   codes_bad end i e h =
       let n : call_part l (take end d) ≡ refused 4 = ap (or_refused 4) h in
       record { call = λ x next. rw e (bad_field l d end i n x next); last = λ x. rw e (bad_last l d end i n x) }
 
   pub codes_gave : 2 ≤ l → l ≤ 7 → (end i p : ℕ) → f ≡ span_in d end i → length (take end d) ≤ 10 → i ≤ length d
-      → Gave (token_bits l (call_of (take end d))) b at c p → Codes l f d b at c (Next i p)
+      → Gave (token_bits l (call_of (take end d))) b at c p → Codes l f d b at c (Ok (i, p))
   unfolding Codes call_part
   codes_gave low high end i p e m w g =
       let n : call_part l (take end d) ≡ answer g.bits = ap (or_refused 4) g.is in
@@ -130,13 +128,13 @@ module _ (l : ℕ) (f : Field) (d : List ℕ) (b : List Bool) (at : ℕ) (c : Li
     coded_near = omega (arith, h.wrote.next_is, h.few)
 
     -- what follows the field is coded behind it
-    pub does_field : (next : List ℕ → Outcome (List Bool)) (e : List Bool) (r : Part) → Does (next (drop i d)) c p e r → Does (call_field l f d next) b at e r
+    pub does_field : (next : List ℕ → Outcome (List Bool)) (e : List Bool) (r : Result ℕ Refusal) → Does (next (drop i d)) c p e r → Does (call_field l f d next) b at e r
     does_field next e r k = rw (h.is, field_is l d h.end i next, h.coded) (does_then h.wrote (next (drop i d)) e r k)
 
-    pub does_full : i ≡ 0 → (e : List Bool) (r : Part) → Does (inner_bits l d) c p e r → Does (last_field l f d) b at e r
+    pub does_full : i ≡ 0 → (e : List Bool) (r : Result ℕ Refusal) → Does (inner_bits l d) c p e r → Does (last_field l f d) b at e r
     does_full z e r k = rw (h.is, last_full l d h.end i z, h.coded) (does_then h.wrote (inner_bits l d) e r k)
 
-    pub does_ended : (i ≡ 0 → ⊥) → (e : List Bool) (r : Part) → Does (inner_bits l (drop (i + 1) d)) c p e r → Does (last_field l f d) b at e r
+    pub does_ended : (i ≡ 0 → ⊥) → (e : List Bool) (r : Result ℕ Refusal) → Does (inner_bits l (drop (i + 1) d)) c p e r → Does (last_field l f d) b at e r
     does_ended z e r k = rw (h.is, last_ended l d h.end i z, h.coded) (does_then h.wrote (inner_bits l (drop (i + 1) d)) e r k)
 
 -- ---- the three calls

@@ -17,25 +17,23 @@ use Rattle.ax25_aprs.specs.Body.{read_body}
 use Rattle.ax25_aprs.specs.Third.{inner_type, read_third}
 use Rattle.ax25_body.specs.Read.{read_inner}
 use Rattle.ax25_body.specs.Pass.{Passed, Passes}
-use Rattle.ax25_body.specs.declared.third.Pass.{Pass}
-use Rattle.ax25_body.specs.declared.third.Pass.TheVariants.{Next, Nothing}
 
 -- ---- an answer that has a call, and one that has none
 
 module _ (o : Option (List ℕ × List Bool)) (u : List Bool) (x out : List ℕ) (to : ℕ) (e : List ℕ) where
-  pub passed : (r : Pass) (p n : ℕ) → r ≡ Next p n → Passes o u x out to e r → Passed o u x out to e p n
+  pub passed : (r : Option (ℕ × ℕ)) (p n : ℕ) → r ≡ Some (p, n) → Passes o u x out to e r → Passed o u x out to e p n
   unfolding Passes
-  passed r p n q h = subst (λ (t : Pass). Passes o u x out to e t) q h
+  passed r p n q h = subst (λ (t : Option (ℕ × ℕ)). Passes o u x out to e t) q h
 
-  pub passed_none : (r : Pass) → r ≡ Nothing → Passes o u x out to e r → o ≡ None
+  pub passed_none : (r : Option (ℕ × ℕ)) → r ≡ None → Passes o u x out to e r → o ≡ None
   unfolding Passes
-  passed_none r q h = subst (λ (t : Pass). Passes o u x out to e t) q h
+  passed_none r q h = subst (λ (t : Option (ℕ × ℕ)). Passes o u x out to e t) q h
 
-  pub passes : (p n : ℕ) → Passed o u x out to e p n → Passes o u x out to e (Next p n)
+  pub passes : (p n : ℕ) → Passed o u x out to e p n → Passes o u x out to e (Some (p, n))
   unfolding Passes
   passes p n h = h
 
-  pub passes_none : o ≡ None → Passes o u x out to e Nothing
+  pub passes_none : o ≡ None → Passes o u x out to e None
   unfolding Passes
   passes_none h = h
 

@@ -1,15 +1,12 @@
 -- What the answers of a coder and of a reader of a call stand for.
 -- Assumes nothing.
+use Rattle.std.specs.Prelude.{Option, None, Some, Result, Ok, Err}
+use Rattle.refusals.specs.declared.Refusal.{Refusal}
 use Rattle.std.specs.Prelude.{◌≡◌, Bool, List, ◌++◌, ℕ, ◌≤◌, length, take, drop}
-use Rattle.std.specs.Prelude.{Option, None, Some}
 use Rattle.laws.specs.Wrote.{Wrote}
-use Rattle.refusals.specs.Outcome.{Outcome, refused, answer}
+use Rattle.refusals.specs.Outcome.{Outcome, refused, answer, number}
 use Rattle.ax25_aprs.specs.Put.{span_in}
 use Rattle.ax25_aprs.specs.Third.{Field, call_part, call_field, last_field}
-use Rattle.ax25_body.specs.declared.third.Piece.{Piece}
-use Rattle.ax25_body.specs.declared.third.Piece.TheVariants as piece
-use Rattle.ax25_body.specs.declared.third.Pass.{Pass}
-use Rattle.ax25_body.specs.declared.third.Pass.TheVariants.{Next, Nothing}
 
 -- the field f of d ends at a place, its call was coded at a position of the bits b, which leaves c, and d goes on at i
 pub record Coded (l : ℕ) (f : Field) (d : List ℕ) (b : List Bool) (at : ℕ) (c : List Bool) (i p : ℕ) : Type 0 where
@@ -27,9 +24,9 @@ pub record Uncoded (l : ℕ) (f : Field) (n : ℕ) : Type 0 where
   pub last : (d : List ℕ) → last_field l f d ≡ refused n
 
 -- on a refusal nothing is said of c
-unfoldable pub Codes : ℕ → Field → List ℕ → List Bool → ℕ → List Bool → Piece → Type 0
-Codes l f d b at c (piece.Next i p) = Coded l f d b at c i p
-Codes l f d b at c (piece.Refused n) = Uncoded l f n
+unfoldable pub Codes : ℕ → Field → List ℕ → List Bool → ℕ → List Bool → Result (ℕ × ℕ) Refusal → Type 0
+Codes l f d b at c (Ok (i, p)) = Coded l f d b at c i p
+Codes l f d b at c (Err e) = Uncoded l f (number e)
 
 -- a call was read, which leaves the bits u from p on; x and its text were written at a place of out, which leaves e
 pub record Passed (o : Option (List ℕ × List Bool)) (u : List Bool) (x out : List ℕ) (to : ℕ) (e : List ℕ) (p next : ℕ) : Type 0 where
@@ -39,6 +36,6 @@ pub record Passed (o : Option (List ℕ × List Bool)) (u : List Bool) (x out : 
   pub wrote : Wrote out to (x ++ text) e next
 
 -- where there is no call, nothing is said of e
-unfoldable pub Passes : Option (List ℕ × List Bool) → List Bool → List ℕ → List ℕ → ℕ → List ℕ → Pass → Type 0
-Passes o u x out to e (Next p next) = Passed o u x out to e p next
-Passes o u x out to e Nothing = o ≡ None
+unfoldable pub Passes : Option (List ℕ × List Bool) → List Bool → List ℕ → List ℕ → ℕ → List ℕ → Option (ℕ × ℕ) → Type 0
+Passes o u x out to e (Some (p, next)) = Passed o u x out to e p next
+Passes o u x out to e None = o ≡ None

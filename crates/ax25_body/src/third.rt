@@ -10,33 +10,18 @@ ghost use Rattle.ax25_body.specs.Pass.{Codes, Passes};
 
 use crate::body;
 use ax25_address::classify::{AprsType, opens};
-use ax25_aprs::part::Part;
-use ax25_aprs::third::{Collected, collect};
-use ax25_token::Token;
-use ax25_token::encode::Put;
-use bits::read::{Got, Taken};
+use ax25_aprs::third::collect;
 use bits_write::least;
-
-// Where to go on behind a call's field and the next position, or the refusal's number.
-#[derive(Clone, Copy)]
-pub enum Piece {
-    Next(usize, usize),
-    Refused(u8),
-}
+use refusals::Refusal;
 
 // The token of the call at the front of d, up to a stop byte among its first ten.
-fn call_encode(d: &[u8], stop: u8, l: usize, out: &mut [u8], at: usize) -> Piece
+fn call_encode(d: &[u8], stop: u8, l: usize, out: &mut [u8], at: usize) -> Result<(usize, usize), Refusal>
     requires { (at < 2 ^ 60) × (2 ≤ l) × (l ≤ 7) }
     ensures { Codes l (collect_of stop 10 d.now) d.now (unpack out.old) at (unpack out.new) result }
 {
-    let Collected::Found(f) = collect(d, stop, 10) else {
-        return Piece::Refused(refusals::SHORT);
-    };
-    let end = f.end;
-    let Put::Next(p) = body::put_trimmed(&d[0..end], l, out, at) else {
-        return Piece::Refused(refusals::BAD_CALL);
-    };
-    Piece::Next(f.next, p)
+    let f = collect(d, stop, 10).ok_or(Refusal::Short)?;
+    let p = body::put_trimmed(&d[..f.end], l, out, at).ok_or(Refusal::BadCall)?;
+    Ok((f.next, p))
 }
 
 // The number of the inner type, by its first two bytes.
@@ -57,12 +42,12 @@ fn inner_number(d: &[u8]) -> u64
 }
 
 // The inner type in two bits, and the inner body.
-fn inner_encode(d: &[u8], l: usize, out: &mut [u8], at: usize) -> Part
+fn inner_encode(d: &[u8], l: usize, out: &mut [u8], at: usize) -> Result<usize, Refusal>
     requires { (length d.now < 2 ^ 56) × (at < 2 ^ 58) × (2 ≤ l) × (l ≤ 7) }
     ensures { Does (inner_bits l d.now) (unpack out.old) at (unpack out.new) result }
 {
     if d.len() < 2 {
-        return Part::Refused(refusals::SHORT);
+        return Err(Refusal::Short);
     }
     let k = inner_number(d);
     let p = bits_write::push(out, at, k, 2);
@@ -70,72 +55,54 @@ fn inner_encode(d: &[u8], l: usize, out: &mut [u8], at: usize) -> Part
 }
 
 // The third call, up to '*', behind which one byte is skipped, and the inner body.
-fn last_encode(d: &[u8], l: usize, out: &mut [u8], at: usize) -> Part
+fn last_encode(d: &[u8], l: usize, out: &mut [u8], at: usize) -> Result<usize, Refusal>
     requires { (length d.now < 2 ^ 56) × (at < 2 ^ 57) × (2 ≤ l) × (l ≤ 7) }
     ensures { Does (last_field l (collect_of 0x2A 10 d.now) d.now) (unpack out.old) at (unpack out.new) result }
 {
-    match call_encode(d, b'*', l, out, at) {
-        Piece::Refused(n) => Part::Refused(n),
-        Piece::Next(i, p) => {
-            if i == 0 {
-                return inner_encode(d, l, out, p);
-            }
-            let j = least(i + 1, d.len());
-            inner_encode(&d[j..], l, out, p)
-        }
+    let (i, p) = call_encode(d, b'*', l, out, at)?;
+    if i == 0 {
+        return inner_encode(d, l, out, p);
     }
+    let j = least(i + 1, d.len());
+    inner_encode(&d[j..], l, out, p)
 }
 
 // The field of "TCPIP", whose comma must be there, and what follows it.
-fn path_encode(d: &[u8], l: usize, out: &mut [u8], at: usize) -> Part
+fn path_encode(d: &[u8], l: usize, out: &mut [u8], at: usize) -> Result<usize, Refusal>
     requires { (length d.now < 2 ^ 56) × (at < 2 ^ 57) × (2 ≤ l) × (l ≤ 7) }
     ensures { Does (path_field l (collect_of 0x2C 14 d.now)) (unpack out.old) at (unpack out.new) result }
 {
-    let Collected::Found(f) = collect(d, b',', 14) else {
-        return Part::Refused(refusals::SHORT);
-    };
-    let i = f.next;
-    if i == 0 {
-        return Part::Refused(refusals::FORMAT);
+    let f = collect(d, b',', 14).ok_or(Refusal::Short)?;
+    if f.next == 0 {
+        return Err(Refusal::Format);
     }
-    last_encode(&d[i..], l, out, at)
+    last_encode(&d[f.next..], l, out, at)
 }
 
 // The second call, up to ',', and what follows it.
-fn second_encode(d: &[u8], l: usize, out: &mut [u8], at: usize) -> Part
+fn second_encode(d: &[u8], l: usize, out: &mut [u8], at: usize) -> Result<usize, Refusal>
     requires { (length d.now < 2 ^ 56) × (at < 2 ^ 56) × (2 ≤ l) × (l ≤ 7) }
     ensures { Does (second_bits l d.now) (unpack out.old) at (unpack out.new) result }
 {
-    match call_encode(d, b',', l, out, at) {
-        Piece::Refused(n) => Part::Refused(n),
-        Piece::Next(i, p) => path_encode(&d[i..], l, out, p),
-    }
+    let (i, p) = call_encode(d, b',', l, out, at)?;
+    path_encode(&d[i..], l, out, p)
 }
 
 // The first call, up to '>', and what follows it.
-fn first_encode(d: &[u8], l: usize, out: &mut [u8], at: usize) -> Part
+fn first_encode(d: &[u8], l: usize, out: &mut [u8], at: usize) -> Result<usize, Refusal>
     requires { (length d.now < 2 ^ 56) × (at < 2 ^ 55) × (2 ≤ l) × (l ≤ 7) }
     ensures { Does (third_bits l d.now) (unpack out.old) at (unpack out.new) result }
 {
-    match call_encode(d, b'>', l, out, at) {
-        Piece::Refused(n) => Part::Refused(n),
-        Piece::Next(i, p) => second_encode(&d[i..], l, out, p),
-    }
+    let (i, p) = call_encode(d, b'>', l, out, at)?;
+    second_encode(&d[i..], l, out, p)
 }
 
 // A third-party body from its type byte on, which is dropped here.
-pub fn third_encode(d: &[u8], l: usize, out: &mut [u8], at: usize) -> Part
+pub fn third_encode(d: &[u8], l: usize, out: &mut [u8], at: usize) -> Result<usize, Refusal>
     requires { (0 < length d.now) × (length d.now < 2 ^ 56) × (at < 2 ^ 55) × (2 ≤ l) × (l ≤ 7) }
     ensures { Does (third_bits l (drop 1 d.now)) (unpack out.old) at (unpack out.new) result }
 {
     first_encode(&d[1..], l, out, at)
-}
-
-// The next bit and the next place behind a call that was read, or no call.
-#[derive(Clone, Copy)]
-pub enum Pass {
-    Next(usize, usize),
-    Nothing,
 }
 
 // A text, and behind it the call that stands from a bit on; where there is none, nothing is said of the output.
@@ -147,17 +114,13 @@ fn call_decode(
     out: &mut [u8],
     to: usize,
     mended: bool,
-) -> Pass
+) -> Option<(usize, usize)>
     requires { (length s.now < 2 ^ 55) × (2 ≤ l) × (l ≤ 7) × (length before.now ≤ 16) × (to < 2 ^ 54) }
     ensures { Passes (read_token mended l (drop at (unpack s.now))) (unpack s.now) before.now out.old to out.new result }
 {
-    let d = ax25_token::token_decode(s, at, l, mended);
-    let token = d.token;
-    let Token::Next(p) = token else {
-        return Pass::Nothing;
-    };
+    let (call, p) = ax25_token::token_decode(s, at, l, mended)?;
     let i = bits_write::copy(out, to, before);
-    Pass::Next(p, body::put_text(d.call, out, i))
+    Some((p, body::put_text(call, out, i)))
 }
 
 // The type of an inner type's number.
@@ -174,30 +137,22 @@ fn inner_type(k: u64) -> AprsType
 }
 
 // The end of the head, and the inner body that stands from a bit on behind its type in two bits.
-fn inner_decode(s: &[u8], at: usize, l: usize, out: &mut [u8], to: usize, mended: bool) -> Got
+fn inner_decode(s: &[u8], at: usize, l: usize, out: &mut [u8], to: usize, mended: bool) -> Option<usize>
     requires { (length s.now < 2 ^ 55) × (to < 2 ^ 53) × (2 ≤ l) × (l ≤ 7) }
     ensures { Reads (read_inner mended l (drop at (unpack s.now))) out.old to out.new result }
 {
-    let Taken::Bits(k, p) = bits::reader::take_at(s, at, 2) else {
-        return Got::Nothing;
-    };
+    let (k, p) = bits::reader::take_at(s, at, 2)?;
     let i = bits_write::copy(out, to, b"*:");
     body::aprs_decode(inner_type(k), s, p, l, out, i, mended)
 }
 
 // The third-party body that stands from a bit on; where there is none, nothing is said of the output.
-pub fn third_decode(s: &[u8], at: usize, l: usize, out: &mut [u8], to: usize, mended: bool) -> Got
+pub fn third_decode(s: &[u8], at: usize, l: usize, out: &mut [u8], to: usize, mended: bool) -> Option<usize>
     requires { (length s.now < 2 ^ 55) × (to < 2 ^ 52) × (2 ≤ l) × (l ≤ 7) }
     ensures { Reads (read_third mended l (drop at (unpack s.now))) out.old to out.new result }
 {
-    let Pass::Next(p, i) = call_decode(s, at, l, b"}", out, to, mended) else {
-        return Got::Nothing;
-    };
-    let Pass::Next(q, j) = call_decode(s, p, l, b">", out, i, mended) else {
-        return Got::Nothing;
-    };
-    let Pass::Next(r, k) = call_decode(s, q, l, b",TCPIP,", out, j, mended) else {
-        return Got::Nothing;
-    };
+    let (p, i) = call_decode(s, at, l, b"}", out, to, mended)?;
+    let (q, j) = call_decode(s, p, l, b">", out, i, mended)?;
+    let (r, k) = call_decode(s, q, l, b",TCPIP,", out, j, mended)?;
     inner_decode(s, r, l, out, k, mended)
 }

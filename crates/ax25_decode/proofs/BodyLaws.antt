@@ -12,7 +12,6 @@ use Rattle.laws.specs.Pick.{pick, ◌>>=◌}
 use Rattle.laws.specs.Wrote.{Wrote}
 use Rattle.laws.proofs.WroteLaws.{wrote_then}
 use Rattle.bits.specs.Text7.{text7_of, text7_next, text7_left}
-use Rattle.bits.specs.declared.read.Got.{Got}
 use Rattle.ax25_address.specs.Kind.{type_number}
 use Rattle.ax25_address.specs.declared.classify.AprsType.{AprsType}
 use Rattle.ax25_address.specs.declared.classify.AprsType.TheVariants as kind
@@ -23,8 +22,6 @@ use Rattle.ax25_aprs.proofs.PartLaws.{reads_then}
 use Rattle.ax25.specs.Decode as decode
 use Rattle.ax25.specs.Decode.{digi_count, bytes_in, addresses, read_head, read_info, read_frame}
 use Rattle.ax25_decode.specs.Put.{HeadRead, Heads}
-use Rattle.ax25_decode.specs.declared.Head.{Head}
-use Rattle.ax25_decode.specs.declared.Head.TheVariants.{Is, Nothing}
 use Rattle.ax25_decode.proofs.HeadLaws.{addresses_size}
 
 -- ---- whole bytes
@@ -59,19 +56,19 @@ module _ (mended : Bool) (l : ℕ) (b : List Bool) (p : ℕ) where
   info_body kind.Message h = refl
   info_body kind.ThirdParty h = absurd (h.2 refl)
 
-pub text7_reads : (o : Option (List ℕ)) (out : List ℕ) (to : ℕ) (e : List ℕ) (r : Got) → r ≡ text7_next to o → e ≡ text7_left out to o → Reads o out to e r
+pub text7_reads : (o : Option (List ℕ)) (out : List ℕ) (to : ℕ) (e : List ℕ) (r : Option ℕ) → r ≡ text7_next to o → e ≡ text7_left out to o → Reads o out to e r
 unfolding text7_next text7_left
 text7_reads None out to e r u v = u
 text7_reads (Some t) out to e r u v = (u, record { stored = v; next_is = refl })
 
 -- ---- the frame
 
-module _ (l : ℕ) (b : List Bool) (o : Option (decode.Head × List Bool)) (out e : List ℕ) (r : Head) (h : Heads l b o out e r) where
-  pub headed : (p q : ℕ) (t : AprsType) → r ≡ Is p q t → HeadRead l b o out e p q t
-  headed p q t u = subst (λ (x : Head). Heads l b o out e x) u h
+module _ (l : ℕ) (b : List Bool) (o : Option (decode.Head × List Bool)) (out e : List ℕ) (r : Option (ℕ × ℕ × AprsType)) (h : Heads l b o out e r) where
+  pub headed : (p q : ℕ) (t : AprsType) → r ≡ Some (p, q, t) → HeadRead l b o out e p q t
+  headed p q t u = subst (λ (x : Option (ℕ × ℕ × AprsType)). Heads l b o out e x) u h
 
-  pub unheaded : r ≡ Nothing → o ≡ None
-  unheaded u = subst (λ (x : Head). Heads l b o out e x) u h
+  pub unheaded : r ≡ None → o ≡ None
+  unheaded u = subst (λ (x : Option (ℕ × ℕ × AprsType)). Heads l b o out e x) u h
 
 module _ (mended : Bool) (l header n : ℕ) (b : List Bool) (c : n ≡ digi_count header) where
   pub frame_none : read_head mended l n b ≡ None → read_frame mended l header b ≡ None
@@ -96,7 +93,7 @@ module _ (mended : Bool) (l header n : ℕ) (b : List Bool) (c : n ≡ digi_coun
         together u None = refl
         together u (Some i) = ap Some (sym (append_assoc fields u i))
 
-    pub frame_some : (e : List ℕ) (v : ℕ) → Wrote mid q (pick (odd (header / 64)) (0x03 ∷ 0xF0 ∷ []) []) e v → (d : List ℕ) (r : Got)
+    pub frame_some : (e : List ℕ) (v : ℕ) → Wrote mid q (pick (odd (header / 64)) (0x03 ∷ 0xF0 ∷ []) []) e v → (d : List ℕ) (r : Option ℕ)
         → Reads (read_info mended l (type_number t) b (drop p b)) e v d r → Reads (read_frame mended l header b) out 0 d r
     unfolding fields
     frame_some e v w d r k =

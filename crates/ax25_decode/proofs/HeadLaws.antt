@@ -17,7 +17,6 @@ use Rattle.laws.specs.Wrote.{Wrote}
 use Rattle.laws.proofs.Cases.{by_test, by_option, from_some, pick_true, pick_false}
 use Rattle.laws.proofs.WroteLaws.{wrote_then, wrote_as}
 use Rattle.bits.specs.Read.{take_bits, taken}
-use Rattle.bits.specs.declared.read.Taken.TheVariants.{Bits, Short}
 use Rattle.bits.proofs.TakenLaws.{told_short, told_bits, told_within}
 use Rattle.ax25_token.specs.Token.{read_token}
 use Rattle.ax25_address.specs.Kind.{type_number}
@@ -27,15 +26,13 @@ use Rattle.ax25_address.specs.declared.classify.AprsType.TheVariants as kind
 use Rattle.ax25.specs.Decode.{Head, known, is_empty, name_at, addresses, read_alias, read_aliased, read_digis, read_head}
 use Rattle.ax25.specs.Encode.{type_width}
 use Rattle.ax25_decode.specs.Put.{Took, field_of, ap_in, read_ends, ends_bytes, digi_bytes, type_is, read_type, Types, HeadRead}
-use Rattle.ax25_decode.specs.declared.Typed.{Typed}
-use Rattle.ax25_decode.specs.declared.Typed.TheVariants.{Is, Nothing}
 use Rattle.ax25.proofs.PlainLaws.{odd_yes}
 use Rattle.ax25_decode.proofs.ReaderLaws.{field_size, tokens_count, alias_count}
 
 -- ---- the type
 
 -- a type that there is, and a code that is none
-pub type_here : (t : AprsType) (v at : ℕ) → v ≡ type_number t → type_is (Is t at) ≡ pick (known v) (Some (v, at)) None
+pub type_here : (t : AprsType) (v at : ℕ) → v ≡ type_number t → type_is (Some (t, at)) ≡ pick (known v) (Some (v, at)) None
 unfolding type_is pick
 type_here kind.Text v at e = rw e
 type_here kind.Binary v at e = rw e
@@ -47,28 +44,28 @@ type_here kind.ThirdParty v at e = rw e
 above : (v k : ℕ) → k ≤ v → (v ≡ k → ⊥) → suc k ≤ v
 above v k h n = omega (arith, h, n)
 
-pub type_none : (v at : ℕ) → (v ≡ 0 → ⊥) → (v ≡ 1 → ⊥) → (v ≡ 2 → ⊥) → (v ≡ 3 → ⊥) → (v ≡ 4 → ⊥) → (v ≡ 6 → ⊥) → type_is Nothing ≡ pick (known v) (Some (v, at)) None
+pub type_none : (v at : ℕ) → (v ≡ 0 → ⊥) → (v ≡ 1 → ⊥) → (v ≡ 2 → ⊥) → (v ≡ 3 → ⊥) → (v ≡ 4 → ⊥) → (v ≡ 6 → ⊥) → type_is None ≡ pick (known v) (Some (v, at)) None
 unfolding type_is pick
 type_none v at a b c d e f =
     let past : 4 < v = above v 4 (above v 3 (above v 2 (above v 1 (above v 0 zero-le a) b) c) d) e in
     rw (lt-leb v 4 past, ne_eqb v 6 f)
 
-typed_by : (b : List Bool) (v p : ℕ) (x : Bool) (r : Typed) → type_is r ≡ pick x (Some (v, p)) None → p ≤ length b → Types b (pick x (Some (v, drop p b)) None) r
+typed_by : (b : List Bool) (v p : ℕ) (x : Bool) (r : Option (AprsType × ℕ)) → type_is r ≡ pick x (Some (v, p)) None → p ≤ length b → Types b (pick x (Some (v, drop p b)) None) r
 unfolding type_is pick
-typed_by b v p true (Is t q) e h =
+typed_by b v p true (Some (t, q)) e h =
     let s = same_Some (type_number t, q) (v, p) e in
     let place_is : p ≡ q = sym (ap (λ (x : ℕ × ℕ). x.1) s) in
     (ap₂ (λ (x y : ℕ). Some (x, drop y b)) (sym (ap (λ (x : ℕ × ℕ). x.0) s)) place_is, subst (λ (x : ℕ). x ≤ length b) place_is h)
-typed_by b v p true Nothing e h = absurd (none-some (v, p) e)
-typed_by b v p false (Is t q) e h = absurd (none-some (type_number t, q) (sym e))
-typed_by b v p false Nothing e h = refl
+typed_by b v p true None e h = absurd (none-some (v, p) e)
+typed_by b v p false (Some (t, q)) e h = absurd (none-some (type_number t, q) (sym e))
+typed_by b v p false None e h = refl
 
 module _ (x : Bool) (b : List Bool) (at n : ℕ) (w : n ≡ type_width x) where
-  pub type_short : taken (at + n) (take_bits n (drop at b)) ≡ Short → read_type x (drop at b) ≡ None
+  pub type_short : taken (at + n) (take_bits n (drop at b)) ≡ None → read_type x (drop at b) ≡ None
   unfolding read_type
   type_short u = rw (← w, told_short b at n u)
 
-  pub type_read : 0 < n → (v p : ℕ) → taken (at + n) (take_bits n (drop at b)) ≡ Bits v p → (r : Typed) → type_is r ≡ pick (known v) (Some (v, p)) None
+  pub type_read : 0 < n → (v p : ℕ) → taken (at + n) (take_bits n (drop at b)) ≡ Some (v, p) → (r : Option (AprsType × ℕ)) → type_is r ≡ pick (known v) (Some (v, p)) None
       → Types b (read_type x (drop at b)) r
   unfolding read_type
   type_read h v p u r e = rw (← w, told_bits b at n v p u) (typed_by b v p (known v) r e (told_within b at n v p u h))
@@ -229,12 +226,12 @@ ends_place l last t =
 
 -- ---- answers
 
-module _ (b : List Bool) (o : Option (ℕ × List Bool)) (r : Typed) (h : Types b o r) where
-  pub typed : (t : AprsType) (p : ℕ) → r ≡ Is t p → (o ≡ Some (type_number t, drop p b)) × (p ≤ length b)
-  typed t p u = subst (λ (x : Typed). Types b o x) u h
+module _ (b : List Bool) (o : Option (ℕ × List Bool)) (r : Option (AprsType × ℕ)) (h : Types b o r) where
+  pub typed : (t : AprsType) (p : ℕ) → r ≡ Some (t, p) → (o ≡ Some (type_number t, drop p b)) × (p ≤ length b)
+  typed t p u = subst (λ (x : Option (AprsType × ℕ)). Types b o x) u h
 
-  pub untyped : r ≡ Nothing → o ≡ None
-  untyped u = subst (λ (x : Typed). Types b o x) u h
+  pub untyped : r ≡ None → o ≡ None
+  untyped u = subst (λ (x : Option (AprsType × ℕ)). Types b o x) u h
 
 -- ---- the header
 

@@ -31,20 +31,18 @@ use Rattle.ax25_address.specs.Parse.{aliases, alias_calls}
 use Rattle.ax25_address.proofs.CallField.{field_letters, length_letters}
 use Rattle.ax25.specs.Decode.{is_empty, marked, addresses, name_at, read_tokens, read_alias, read_aliased, read_digis}
 use Rattle.ax25_decode.specs.Put.{Took, ReadsTo, field_of, ap_in, read_ends, ends_bytes, digi_bytes}
-use Rattle.ax25_decode.specs.declared.Read.{Read}
-use Rattle.ax25_decode.specs.declared.Read.TheVariants.{Next, Nothing}
 
 -- ---- answers
 
-module _ {X : Type 0} (f : X → List ℕ) (b : List Bool) (o : Option (X × List Bool)) (out : List ℕ) (to : ℕ) (e : List ℕ) (r : Read) (h : ReadsTo f b o out to e r) where
-  pub took : (p q : ℕ) → r ≡ Next p q → Took f b o out to e p q
-  took p q u = subst (λ (x : Read). ReadsTo f b o out to e x) u h
+module _ {X : Type 0} (f : X → List ℕ) (b : List Bool) (o : Option (X × List Bool)) (out : List ℕ) (to : ℕ) (e : List ℕ) (r : Option (ℕ × ℕ)) (h : ReadsTo f b o out to e r) where
+  pub took : (p q : ℕ) → r ≡ Some (p, q) → Took f b o out to e p q
+  took p q u = subst (λ (x : Option (ℕ × ℕ)). ReadsTo f b o out to e x) u h
 
-  pub untaken : r ≡ Nothing → o ≡ None
-  untaken u = subst (λ (x : Read). ReadsTo f b o out to e x) u h
+  pub untaken : r ≡ None → o ≡ None
+  untaken u = subst (λ (x : Option (ℕ × ℕ)). ReadsTo f b o out to e x) u h
 
 -- a reading that is the same
-pub reads_as_lem : {X : Type 0} (f : X → List ℕ) (b : List Bool) {o u : Option (X × List Bool)} → o ≡ u → (out : List ℕ) (to : ℕ) (e : List ℕ) (r : Read)
+pub reads_as_lem : {X : Type 0} (f : X → List ℕ) (b : List Bool) {o u : Option (X × List Bool)} → o ≡ u → (out : List ℕ) (to : ℕ) (e : List ℕ) (r : Option (ℕ × ℕ))
     → ReadsTo f b o out to e r → ReadsTo f b u out to e r
 reads_as_lem f b q out to e r h = subst (λ x. ReadsTo f b x out to e r) q h
 
@@ -107,11 +105,11 @@ module _ (mended : Bool) (l : ℕ) (last : Bool) (b : List Bool) (r : List Bool)
   unfolding read_ends
   ends_none u = rw u
 
-  pub ends_then : (mid : List ℕ) (p q : ℕ) → Took (field_of l false false) b (read_token mended l r) out to mid p q → (e : List ℕ) (a : Read)
+  pub ends_then : (mid : List ℕ) (p q : ℕ) → Took (field_of l false false) b (read_token mended l r) out to mid p q → (e : List ℕ) (a : Option (ℕ × ℕ))
       → ReadsTo (field_of l false last) b (read_token mended l (drop p b)) mid q e a → ReadsTo (ends_bytes l last) b (read_ends mended l r) out to e a
   unfolding read_ends ends_bytes
-  ends_then mid p q t e (Next u v) k = record { value = (t.value, k.value); is = rw (t.is, k.is); wrote = wrote_then t.wrote k.wrote }
-  ends_then mid p q t e Nothing k = rw (t.is, k)
+  ends_then mid p q t e (Some (u, v)) k = record { value = (t.value, k.value); is = rw (t.is, k.is); wrote = wrote_then t.wrote k.wrote }
+  ends_then mid p q t e None k = rw (t.is, k)
 
 -- ---- the bytes of digipeaters
 
@@ -146,15 +144,15 @@ tokens_count mended l (suc m) b p e =
     (λ cs ecs g. rw (← same_Some (c.0 ∷ cs.0, cs.1) p g) (ap suc (tokens_count mended l m c.1 cs ecs))))
 
 tokens_suc : (mended : Bool) (l m k : ℕ) (b r : List Bool) (out mid : List ℕ) (to p q : ℕ) → Took (field_of l (get_or b k false) (eqb (suc m) 1)) b (read_token mended l r) out to mid p q
-    → (e : List ℕ) (a : Read) → ReadsTo (digi_bytes l b m (k + 1)) b (read_tokens mended l m (drop p b)) mid q e a
+    → (e : List ℕ) (a : Option (ℕ × ℕ)) → ReadsTo (digi_bytes l b m (k + 1)) b (read_tokens mended l m (drop p b)) mid q e a
     → ReadsTo (digi_bytes l b (suc m) k) b (read_tokens mended l (suc m) r) out to e a
 unfolding read_tokens
-tokens_suc mended l m k b r out mid to p q t e (Next u v) d =
+tokens_suc mended l m k b r out mid to p q t e (Some (u, v)) d =
     let same : field_of l (get_or b k false) (eqb (suc m) 1) t.value ++ digi_bytes l b m (k + 1) d.value ≡ digi_bytes l b (suc m) k (t.value ∷ d.value) =
     ap (λ (x : Bool). field_of l (get_or b k false) x t.value ++ digi_bytes l b m (k + 1) d.value) (last_is d.value m (tokens_count mended l m (drop p b) (d.value, drop u b) d.is))
     ∙ sym (digis_cons l b m k t.value d.value) in
     record { value = t.value ∷ d.value; is = rw (t.is, d.is); wrote = wrote_as same (wrote_then t.wrote d.wrote) }
-tokens_suc mended l m k b r out mid to p q t e Nothing d = rw (t.is, d)
+tokens_suc mended l m k b r out mid to p q t e None d = rw (t.is, d)
 
 tokens_bad : (mended : Bool) (l m : ℕ) (r : List Bool) → read_token mended l r ≡ None → read_tokens mended l (suc m) r ≡ None
 unfolding read_tokens
@@ -172,7 +170,7 @@ module _ (mended : Bool) (l n k : ℕ) (b : List Bool) where
         subst (λ (x : ℕ). read_tokens mended l x r ≡ None) s (tokens_bad mended l (n - 1) r u)
 
     pub tokens_more : (x : Bool) → x ≡ get_or b k false → (out mid : List ℕ) (to p q : ℕ) → Took (field_of l x (eqb n 1)) b (read_token mended l r) out to mid p q
-        → (e : List ℕ) (a : Read) → ReadsTo (digi_bytes l b (n - 1) (k + 1)) b (read_tokens mended l (n - 1) (drop p b)) mid q e a
+        → (e : List ℕ) (a : Option (ℕ × ℕ)) → ReadsTo (digi_bytes l b (n - 1) (k + 1)) b (read_tokens mended l (n - 1) (drop p b)) mid q e a
         → ReadsTo (digi_bytes l b n k) b (read_tokens mended l n r) out to e a
     tokens_more x ex out mid to p q t e a d =
         let s : suc (n - 1) ≡ n = omega (arith, h) in

@@ -13,12 +13,6 @@ use Rattle.ax25_address.specs.declared.classify.AprsType.{AprsType}
 use Rattle.ax25.specs.Decode as decode
 use Rattle.ax25.specs.Decode.{known, marked, addresses}
 use Rattle.ax25.specs.Encode.{type_width}
-use Rattle.ax25_decode.specs.declared.Read.{Read}
-use Rattle.ax25_decode.specs.declared.Read.TheVariants as read
-use Rattle.ax25_decode.specs.declared.Typed.{Typed}
-use Rattle.ax25_decode.specs.declared.Typed.TheVariants as typed
-use Rattle.ax25_decode.specs.declared.Head.{Head}
-use Rattle.ax25_decode.specs.declared.Head.TheVariants as head
 
 -- what is read of the bits b, o, is a value and the bits from p on; its bytes, by f, are written at a place of out, which leaves e, and the next place
 pub record Took {X : Type 0} (f : X → List ℕ) (b : List Bool) (o : Option (X × List Bool)) (out : List ℕ) (to : ℕ) (e : List ℕ) (p q : ℕ) : Type 0 where
@@ -27,9 +21,9 @@ pub record Took {X : Type 0} (f : X → List ℕ) (b : List Bool) (o : Option (X
   pub wrote : Wrote out to (f value) e q
 
 -- the answer of a reader; where there is nothing to read, nothing is said of e
-abbrev pub ReadsTo : {X : Type 0} → (X → List ℕ) → List Bool → Option (X × List Bool) → List ℕ → ℕ → List ℕ → Read → Type 0
-ReadsTo f b o out to e (read.Next p q) = Took f b o out to e p q
-ReadsTo f b o out to e read.Nothing = o ≡ None
+abbrev pub ReadsTo : {X : Type 0} → (X → List ℕ) → List Bool → Option (X × List Bool) → List ℕ → ℕ → List ℕ → Option (ℕ × ℕ) → Type 0
+ReadsTo f b o out to e (Some (p, q)) = Took f b o out to e p q
+ReadsTo f b o out to e None = o ≡ None
 
 -- a call as its address field
 unfoldable pub field_of : ℕ → Bool → Bool → List ℕ → List ℕ
@@ -61,14 +55,14 @@ read_type ap b = do
   pick (known t) (Some (t, r)) None
 
 -- the number of a type, and the position
-unfoldable pub type_is : Typed → Option (ℕ × ℕ)
-type_is (typed.Is t p) = Some (type_number t, p)
-type_is typed.Nothing = None
+unfoldable pub type_is : Option (AprsType × ℕ) → Option (ℕ × ℕ)
+type_is (Some (t, p)) = Some (type_number t, p)
+type_is None = None
 
 -- the answer of the type's reader: the type, and a position that the bits reach
-abbrev pub Types : List Bool → Option (ℕ × List Bool) → Typed → Type 0
-Types b o (typed.Is t p) = (o ≡ Some (type_number t, drop p b)) × (p ≤ length b)
-Types b o typed.Nothing = o ≡ None
+abbrev pub Types : List Bool → Option (ℕ × List Bool) → Option (AprsType × ℕ) → Type 0
+Types b o (Some (t, p)) = (o ≡ Some (type_number t, drop p b)) × (p ≤ length b)
+Types b o None = o ≡ None
 
 -- the answer of the head's reader
 pub record HeadRead (l : ℕ) (b : List Bool) (o : Option (decode.Head × List Bool)) (out e : List ℕ) (p q : ℕ) (typ : AprsType) : Type 0 where
@@ -79,6 +73,6 @@ pub record HeadRead (l : ℕ) (b : List Bool) (o : Option (decode.Head × List B
   pub kind : (head).typ ≡ type_number typ
   pub wrote : Wrote out 0 (addresses l ((head).dest ∷ (head).src ∷ (head).digis) (false ∷ false ∷ (head).heard)) e q
 
-abbrev pub Heads : ℕ → List Bool → Option (decode.Head × List Bool) → List ℕ → List ℕ → Head → Type 0
-Heads l b o out e (head.Is p q typ) = HeadRead l b o out e p q typ
-Heads l b o out e head.Nothing = o ≡ None
+abbrev pub Heads : ℕ → List Bool → Option (decode.Head × List Bool) → List ℕ → List ℕ → Option (ℕ × ℕ × AprsType) → Type 0
+Heads l b o out e (Some (p, q, typ)) = HeadRead l b o out e p q typ
+Heads l b o out e None = o ≡ None

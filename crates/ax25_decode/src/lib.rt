@@ -23,45 +23,19 @@ use ax25_aprs::field;
 use ax25_body::body::aprs_decode;
 use ax25_body::third::third_decode;
 use ax25_token::encode::call_starts;
-use ax25_token::{Token, token_decode};
-use bits::read::{Got, Taken};
+use ax25_token::token_decode;
 use bits::reader::bit_take_at;
-
-// The next position and the next place, or nothing to read.
-#[derive(Clone, Copy)]
-pub enum Read {
-    Next(usize, usize),
-    Nothing,
-}
-
-// A type and the next position, or no type.
-#[derive(Clone, Copy)]
-pub enum Typed {
-    Is(AprsType, usize),
-    Nothing,
-}
-
-// What stands before the body: the next position, the next place and the type.
-#[derive(Clone, Copy)]
-pub enum Head {
-    Is(usize, usize, AprsType),
-    Nothing,
-}
 
 // Bits 80 and 01 of an SSID byte.
 fn mark(h: bool, last: bool) -> u8
     ensures { result ≡ pick h 0x80 0 + pick last 0x01 0 }
 {
-    if h {
-        if last {
-            return 0x81;
-        }
-        return 0x80;
+    match (h, last) {
+        (true, true) => 0x81,
+        (true, false) => 0x80,
+        (false, true) => 0x01,
+        (false, false) => 0x00,
     }
-    if last {
-        return 0x01;
-    }
-    0x00
 }
 
 // A call as its address field, with its H bit and the bit of the last.
@@ -74,17 +48,12 @@ fn read_address(
     out: &mut [u8],
     to: usize,
     mended: bool,
-) -> Read
+) -> Option<(usize, usize)>
     requires { (length s.now < 5000) × (2 ≤ l) × (l ≤ 7) × (to < 2 ^ 20) }
     ensures { ReadsTo (field_of l h last) (unpack s.now) (read_token mended l (drop at (unpack s.now))) out.old to out.new result }
 {
-    let t = token_decode(s, at, l, mended);
-    let token = t.token;
-    let Token::Next(p) = token else {
-        return Read::Nothing;
-    };
-    let c = t.call;
-    Read::Next(p, call_bytes(c, l, mark(h, last), out, to))
+    let (c, p) = token_decode(s, at, l, mended)?;
+    Some((p, call_bytes(c, l, mark(h, last), out, to)))
 }
 
 // The call at a position starts with AP.
@@ -92,23 +61,18 @@ fn is_ap(s: &[u8], at: usize, l: usize, mended: bool) -> bool
     requires { (length s.now < 5000) × (2 ≤ l) × (l ≤ 7) }
     ensures { result ≡ ap_in (read_token mended l (drop at (unpack s.now))) }
 {
-    let t = token_decode(s, at, l, mended);
-    let token = t.token;
-    let Token::Next(_) = token else {
+    let Some((c, _)) = token_decode(s, at, l, mended) else {
         return false;
     };
-    let c = t.call;
     call_starts(c, b"AP")
 }
 
 // Destination and source; the source is the last address where there are no digipeaters.
-fn read_ends(s: &[u8], at: usize, l: usize, last: bool, out: &mut [u8], mended: bool) -> Read
+fn read_ends(s: &[u8], at: usize, l: usize, last: bool, out: &mut [u8], mended: bool) -> Option<(usize, usize)>
     requires { (length s.now < 5000) × (2 ≤ l) × (l ≤ 7) }
     ensures { ReadsTo (ends_bytes l last) (unpack s.now) (read_ends mended l (drop at (unpack s.now))) out.old 0 out.new result }
 {
-    let Read::Next(p, q) = read_address(s, at, l, false, false, out, 0, mended) else {
-        return Read::Nothing;
-    };
+    let (p, q) = read_address(s, at, l, false, false, out, 0, mended)?;
     read_address(s, p, l, false, last, out, q, mended)
 }
 
@@ -122,16 +86,14 @@ fn read_tokens(
     out: &mut [u8],
     to: usize,
     mended: bool,
-) -> Read
+) -> Option<(usize, usize)>
     requires { (length s.now < 5000) × (2 ≤ l) × (l ≤ 7) × (k + n ≤ length s.now * 8) × (to + n * 8 < 2 ^ 20) }
     ensures { ReadsTo (digi_bytes l (unpack s.now) n k) (unpack s.now) (read_tokens mended l n (drop at (unpack s.now))) out.old to out.new result }
 {
     if n == 0 {
-        return Read::Next(at, to);
+        return Some((at, to));
     }
-    let Read::Next(p, q) = read_address(s, at, l, field::bit(s, k), n == 1, out, to, mended) else {
-        return Read::Nothing;
-    };
+    let (p, q) = read_address(s, at, l, field::bit(s, k), n == 1, out, to, mended)?;
     read_tokens(s, p, l, n - 1, k + 1, out, q, mended)
 }
 
@@ -154,21 +116,16 @@ fn put_alias(s: &[u8], l: usize, i: usize, n: usize, k: usize, out: &mut [u8], t
 }
 
 // The digipeaters of an alias whose number was read.
-fn read_alias(s: &[u8], number: Taken, l: usize, n: usize, out: &mut [u8], to: usize) -> Read
+fn read_alias(s: &[u8], number: Option<(u64, usize)>, l: usize, n: usize, out: &mut [u8], to: usize) -> Option<(usize, usize)>
     requires { (length s.now < 5000) × (l ≤ 7) × (n ≤ 8) × (n ≤ length s.now * 8) × (to < 2 ^ 10) }
     ensures { (at : ℕ) → number ≡ took 3 (unpack s.now) at
         → ReadsTo (digi_bytes l (unpack s.now) n 0) (unpack s.now) (read_alias n (drop at (unpack s.now))) out.old to out.new result }
 {
-    let Taken::Bits(i, p) = number else {
-        return Read::Nothing;
-    };
-    if i == 0 {
-        return Read::Nothing;
+    let (i, p) = number?;
+    if i == 0 || 5 < i {
+        return None;
     }
-    if 5 < i {
-        return Read::Nothing;
-    }
-    Read::Next(p, put_alias(s, l, (i - 1) as usize, n, 0, out, to))
+    Some((p, put_alias(s, l, (i - 1) as usize, n, 0, out, to)))
 }
 
 // The alias bit, then the alias or the tokens. Where the bit is set, the three bits after it are the alias's number.
@@ -180,18 +137,14 @@ fn read_aliased(
     out: &mut [u8],
     to: usize,
     mended: bool,
-) -> Read
+) -> Option<(usize, usize)>
     requires { (length s.now < 5000) × (2 ≤ l) × (l ≤ 7) × (n ≤ 8) × (n ≤ length s.now * 8) × (to < 2 ^ 10) }
     ensures { ReadsTo (digi_bytes l (unpack s.now) n 0) (unpack s.now) (read_aliased mended l n (drop at (unpack s.now))) out.old to out.new result }
 {
     let t = bit_take_at(s, at, 3);
-    let bit = t.first;
-    let Taken::Bits(x, p) = bit else {
-        return Read::Nothing;
-    };
+    let (x, p) = t.first?;
     if x == 1 {
-        let number = t.second;
-        return read_alias(s, number, l, n, out, to);
+        return read_alias(s, t.second, l, n, out, to);
     }
     read_tokens(s, p, l, n, 0, out, to, mended)
 }
@@ -206,12 +159,12 @@ fn read_digis(
     out: &mut [u8],
     to: usize,
     mended: bool,
-) -> Read
+) -> Option<(usize, usize)>
     requires { (length s.now < 5000) × (2 ≤ l) × (l ≤ 7) × (n ≤ 8) × (n ≤ length s.now * 8) × (to < 2 ^ 10) }
     ensures { ReadsTo (digi_bytes l (unpack s.now) n 0) (unpack s.now) (read_digis mended l ap n (drop at (unpack s.now))) out.old to out.new result }
 {
     if n == 0 {
-        return Read::Next(at, to);
+        return Some((at, to));
     }
     if ap {
         return read_aliased(s, at, l, n, out, to, mended);
@@ -220,17 +173,17 @@ fn read_digis(
 }
 
 // The type of a code.
-fn from_code(v: u64, at: usize) -> Typed
+fn from_code(v: u64, at: usize) -> Option<(AprsType, usize)>
     ensures { type_is result ≡ pick (known v) (Some (v, at)) None }
 {
     match v {
-        0 => Typed::Is(AprsType::Text, at),
-        1 => Typed::Is(AprsType::Binary, at),
-        2 => Typed::Is(AprsType::Position, at),
-        3 => Typed::Is(AprsType::TimestampedPosition, at),
-        4 => Typed::Is(AprsType::Message, at),
-        6 => Typed::Is(AprsType::ThirdParty, at),
-        _ => Typed::Nothing,
+        0 => Some((AprsType::Text, at)),
+        1 => Some((AprsType::Binary, at)),
+        2 => Some((AprsType::Position, at)),
+        3 => Some((AprsType::TimestampedPosition, at)),
+        4 => Some((AprsType::Message, at)),
+        6 => Some((AprsType::ThirdParty, at)),
+        _ => None,
     }
 }
 
@@ -238,42 +191,31 @@ fn from_code(v: u64, at: usize) -> Typed
 fn type_width(ap: bool) -> usize
     ensures { (result ≡ type_width ap) × (0 < result) × (result ≤ 3) }
 {
-    if ap {
-        return 3;
-    }
-    1
+    if ap { 3 } else { 1 }
 }
 
 // The type at a position; ap: the destination starts with AP.
-fn read_type(s: &[u8], at: usize, ap: bool) -> Typed
+fn read_type(s: &[u8], at: usize, ap: bool) -> Option<(AprsType, usize)>
     requires { length s.now < 5000 }
     ensures { Types (unpack s.now) (read_type ap (drop at (unpack s.now))) result }
 {
-    let Taken::Bits(v, p) = bits::reader::take_at(s, at, type_width(ap)) else {
-        return Typed::Nothing;
-    };
+    let (v, p) = bits::reader::take_at(s, at, type_width(ap))?;
     from_code(v, p)
 }
 
 // What stands before the body, for n digipeaters: H bits, destination, source, digipeaters, type.
-fn read_head(s: &[u8], l: usize, n: usize, out: &mut [u8], mended: bool) -> Head
+fn read_head(s: &[u8], l: usize, n: usize, out: &mut [u8], mended: bool) -> Option<(usize, usize, AprsType)>
     requires { (length s.now < 5000) × (2 ≤ l) × (l ≤ 7) × (n ≤ 8) }
     ensures { Heads l (unpack s.now) (read_head mended l n (unpack s.now)) out.old out.new result }
 {
     if bits::reader::bits_in(s) < n {
-        return Head::Nothing;
+        return None;
     }
     let ap = is_ap(s, n, l, mended);
-    let Read::Next(p, q) = read_ends(s, n, l, n == 0, out, mended) else {
-        return Head::Nothing;
-    };
-    let Read::Next(u, v) = read_digis(s, p, l, ap, n, out, q, mended) else {
-        return Head::Nothing;
-    };
-    let Typed::Is(typ, e) = read_type(s, u, ap) else {
-        return Head::Nothing;
-    };
-    Head::Is(e, v, typ)
+    let (p, q) = read_ends(s, n, l, n == 0, out, mended)?;
+    let (u, v) = read_digis(s, p, l, ap, n, out, q, mended)?;
+    let (typ, e) = read_type(s, u, ap)?;
+    Some((e, v, typ))
 }
 
 // How many digipeaters a header names.
@@ -316,26 +258,24 @@ fn read_info(
     out: &mut [u8],
     to: usize,
     mended: bool,
-) -> Got
+) -> Option<usize>
     requires { (length s.now < 5000) × (at ≤ length s.now * 8) × (2 ≤ l) × (l ≤ 7) × (to < 2 ^ 20) }
     ensures { Reads (read_info mended l (type_number typ) (unpack s.now) (drop at (unpack s.now))) out.old to out.new result }
 {
     match typ {
         AprsType::Text => bits::reader::text7_at(s, at, out, to),
-        AprsType::Binary => Got::Next(read_bytes(s, at, out, to)),
+        AprsType::Binary => Some(read_bytes(s, at, out, to)),
         AprsType::ThirdParty => third_decode(s, at, l, out, to, mended),
         _ => aprs_decode(typ, s, at, l, out, to, mended),
     }
 }
 
 // The frame of a message whose header byte is given and whose other bytes are s, for calls of l letters, in the original reading of tokens or the mended one. What lies past the end of out is not written.
-pub fn decode(s: &[u8], header: u8, l: usize, out: &mut [u8], mended: bool) -> Got
+pub fn decode(s: &[u8], header: u8, l: usize, out: &mut [u8], mended: bool) -> Option<usize>
     requires { (length s.now < 5000) × (2 ≤ l) × (l ≤ 7) }
     ensures { Reads (read_frame mended l header (unpack s.now)) out.old 0 out.new result }
 {
-    let Head::Is(p, q, typ) = read_head(s, l, digi_count(header), out, mended) else {
-        return Got::Nothing;
-    };
+    let (p, q, typ) = read_head(s, l, digi_count(header), out, mended)?;
     let behind = put_ui(header, out, q);
     read_info(s, p, l, typ, out, behind, mended)
 }

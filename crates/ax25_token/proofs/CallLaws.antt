@@ -16,12 +16,8 @@ use Rattle.laws.specs.Text.{same}
 use Rattle.laws.proofs.Cases.{and_left, and_right}
 use Rattle.laws.proofs.TextLaws.{below, at_each, same_eq}
 use Rattle.bits.specs.Read.{take_bits, taken}
-use Rattle.bits.specs.declared.read.Taken.{Taken}
 use Rattle.ax25_token.specs.declared.Call.{Call}
-use Rattle.ax25_token.specs.declared.Decoded.{Decoded}
-use Rattle.ax25_token.specs.declared.Token.{Token}
-use Rattle.ax25_token.specs.declared.Token.TheVariants.{Next, Nothing}
-use Rattle.ax25_token.specs.Call.{text_of, empty, pushed, appended, call_by, call_of, texts, behind_call}
+use Rattle.ax25_token.specs.Call.{text_of, empty, pushed, appended, call_of, UpTo, texts, behind_call}
 use Rattle.ax25_token.specs.Token.{two_digits, suffix, after}
 use Rattle.ax25_token.proofs.Cases.{suffix_none, suffix_some, decimal_one, decimal_two}
 
@@ -71,16 +67,17 @@ text_back t h = text_grows t empty refl (omega arith)
 -- ---- answers
 
 -- what `take` answers
-abbrev pub taken_at : List Bool → ℕ → ℕ → Taken
+abbrev pub taken_at : List Bool → ℕ → ℕ → Option (ℕ × ℕ)
 taken_at b at n = taken (at + n) (take_bits n (drop at b))
 
 -- an answer is that reading behind what a call holds, of at most n bytes more
-abbrev pub Onto : List Bool → Call → ℕ → Option (List ℕ × List Bool) → Decoded → Type 0
-Onto b c n o r = (call_of b r ≡ behind_call c o) × (r.call.len ≤ c.len + n)
+abbrev pub Onto : List Bool → Call → ℕ → Option (List ℕ × List Bool) → Option (Call × ℕ) → Type 0
+Onto b c n o r = (call_of b r ≡ behind_call c o) × UpTo (c.len + n) r
 
--- an answer of nothing
-abbrev pub None : Decoded → Type 0
-None r = (r.token ≡ Nothing) × (r.call ≡ empty)
+-- at most m letters are at most n
+pub longer : {m n : ℕ} (r : Option (Call × ℕ)) → UpTo m r → m ≤ n → UpTo n r
+longer None h k = tt
+longer (Some d) h k = omega arith
 
 -- a name, and then the reading
 pub behind_after : (c : Call) (n : List ℕ) (o : Option (List ℕ × List Bool)) → behind_call c (after n o) ≡ behind_call (appended c n) o
@@ -90,19 +87,18 @@ behind_after c n (Some p) = rw (appended_append c n p.0)
 
 -- the call as it is; no call; a text more
 pub onto_stop : (b : List Bool) (c : Call) (n p : ℕ) (o : Option (List ℕ × List Bool)) → o ≡ Some ([], drop p b)
-    → Onto b c n o (record { token = Next p; call = c })
-unfolding call_of call_by behind_call appended
+    → Onto b c n o (Some (c, p))
+unfolding call_of behind_call appended
 onto_stop b c n p o e = (rw e, omega arith)
 
-pub onto_nothing : (b : List Bool) (c : Call) (n : ℕ) (o : Option (List ℕ × List Bool)) (r : Decoded) → o ≡ None → None r → Onto b c n o r
-unfolding call_of call_by behind_call
-onto_nothing b c n o r e q =
-    let len : r.call.len ≡ 0 = ap (λ (d : Call). d.len) q.1 in
-    (rw (e, q.0), omega arith)
+pub onto_nothing : (b : List Bool) (c : Call) (n : ℕ) (o : Option (List ℕ × List Bool)) (r : Option (Call × ℕ)) → o ≡ None → r ≡ None → Onto b c n o r
+unfolding call_of behind_call
+onto_nothing b c n o None e q = (rw e, tt)
+onto_nothing b c n o (Some d) e q = absurd (none-some d (sym q))
 
 pub onto_next : (b : List Bool) (c : Call) (n : ℕ) (o : Option (List ℕ × List Bool)) (t : List ℕ) (p : ℕ) (d : Call)
-    → o ≡ Some (t, drop p b) → d ≡ appended c t → d.len ≤ c.len + n → Onto b c n o (record { token = Next p; call = d })
-unfolding call_of call_by behind_call
+    → o ≡ Some (t, drop p b) → d ≡ appended c t → d.len ≤ c.len + n → Onto b c n o (Some (d, p))
+unfolding call_of behind_call
 onto_next b c n o t p d e q l = (rw (e, q), l)
 
 -- what an answer with a next position was read from
@@ -122,51 +118,46 @@ got_by b c (Some q) d p e =
       call = ap (λ (x : Call × List Bool). x.0) f;
     }
 
-pub got_next : (b : List Bool) (c : Call) (n : ℕ) (o : Option (List ℕ × List Bool)) (r : Decoded) (p : ℕ)
-    → Onto b c n o r → r.token ≡ Next p → Got b c o r.call p
-unfolding call_of call_by
-got_next b c n o r p i e = got_by b c o r.call p (rw e at i.0)
+pub got_next : (b : List Bool) (c : Call) (n : ℕ) (o : Option (List ℕ × List Bool)) (r : Option (Call × ℕ)) (d : Call) (p : ℕ)
+    → Onto b c n o r → r ≡ Some (d, p) → Got b c o d p
+unfolding call_of
+got_next b c n o r d p i e = got_by b c o d p (rw e at i.0)
+
+pub got_len : (b : List Bool) (c : Call) (n : ℕ) (o : Option (List ℕ × List Bool)) (r : Option (Call × ℕ)) (d : Call) (p : ℕ)
+    → Onto b c n o r → r ≡ Some (d, p) → d.len ≤ c.len + n
+got_len b c n o r d p i e = rw e at i.1
 
 none_by : (c : Call) (o : Option (List ℕ × List Bool)) → None ≡ behind_call c o → o ≡ None
 unfolding behind_call
 none_by c None e = refl
 none_by c (Some q) e = absurd (none-some (appended c q.0, q.1) e)
 
-pub got_none : (b : List Bool) (c : Call) (n : ℕ) (o : Option (List ℕ × List Bool)) (r : Decoded) → Onto b c n o r → r.token ≡ Nothing → o ≡ None
-unfolding call_of call_by
+pub got_none : (b : List Bool) (c : Call) (n : ℕ) (o : Option (List ℕ × List Bool)) (r : Option (Call × ℕ)) → Onto b c n o r → r ≡ None → o ≡ None
+unfolding call_of
 got_none b c n o r i e = none_by c o (rw e at i.0)
 
 -- ---- the text of an answer
 
-text_by : (b : List Bool) (o : Option (List ℕ × List Bool)) (d : Call) (x : Option (Call × List Bool))
-    → ((q : List Bool) (e : Call) → x ≡ Some (e, q) → e ≡ d) → d.len ≤ 16 → x ≡ behind_call empty o → texts x ≡ o
-unfolding behind_call texts
-text_by b None d x f l e = rw e
-text_by b (Some p) d x f l e =
-    let g : appended empty p.0 ≡ d = f p.1 (appended empty p.0) e in
-    let len : (appended empty p.0).len ≡ d.len = ap (λ (c : Call). c.len) g in
-    rw (e, text_back p.0 (omega (arith, len_appended empty p.0)))
-
-call_is : (b : List Bool) (c : Call) (t : Token) (q : List Bool) (e : Call) → call_by b c t ≡ Some (e, q) → e ≡ c
-unfolding call_by
-call_is b c (Next p) q e h = sym (ap (λ (x : Call × List Bool). x.0) (same_Some (c, drop p b) (e, q) h))
-call_is b c Nothing q e h = absurd (none-some (e, q) h)
-
 -- a reading into the empty call, of at most 16 bytes
-pub onto_text : (b : List Bool) (n : ℕ) (o : Option (List ℕ × List Bool)) (r : Decoded) → n ≤ 16 → Onto b empty n o r
-    → (texts (call_of b r) ≡ o) × (r.call.len ≤ n)
-unfolding call_of
-onto_text b n o r h i =
-    (text_by b o r.call (call_of b r) (call_is b r.call r.token) (omega (arith, i.1)) i.0, omega (arith, i.1))
+pub onto_text : (b : List Bool) (n : ℕ) (o : Option (List ℕ × List Bool)) (r : Option (Call × ℕ)) → n ≤ 16 → Onto b empty n o r
+    → (texts (call_of b r) ≡ o) × UpTo n r
+unfolding call_of texts
+onto_text b n o None h i = (sym (none_by empty o i.0), tt)
+onto_text b n o (Some (c, p)) h i =
+    let g = got_by b empty o c p i.0 in
+    let e : c ≡ appended empty g.text = g.call in
+    let len : c.len ≡ (appended empty g.text).len = ap (λ (d : Call). d.len) e in
+    let few : length g.text ≤ 16 = omega (arith, len, i.1, len_appended empty g.text) in
+    (ap (λ (x : List ℕ). Some (x, drop p b)) (ap text_of e ∙ text_back g.text few) ∙ sym g.read, longer (Some (c, p)) i.1 (omega arith))
 
--- what an answer says of the reading, by its token
-module _ (b : List Bool) (o : Option (List ℕ × List Bool)) (r : Decoded) (told : texts (call_of b r) ≡ o) where
-  pub token_next : (p : ℕ) → r.token ≡ Next p → o ≡ Some (text_of r.call, drop p b)
-  unfolding call_of call_by texts
-  token_next p e = rw (← told, e)
+-- what an answer says of the reading
+module _ (b : List Bool) (o : Option (List ℕ × List Bool)) (r : Option (Call × ℕ)) (told : texts (call_of b r) ≡ o) where
+  pub token_next : (c : Call) (p : ℕ) → r ≡ Some (c, p) → o ≡ Some (text_of c, drop p b)
+  unfolding call_of texts
+  token_next c p e = rw (← told, e)
 
-  pub token_nothing : r.token ≡ Nothing → o ≡ None
-  unfolding call_of call_by texts
+  pub token_nothing : r ≡ None → o ≡ None
+  unfolding call_of texts
   token_nothing e = rw (← told, e)
 
 -- `&bytes[0..len]`

@@ -3,11 +3,11 @@
 use mathlib.Core.Path.{◌≡◌, refl, sym, ap, ◌∙◌}
 use mathlib.Core.Bool.{Bool, true, false, ◌&&◌, ◌||◌}
 use mathlib.Core.List.{List, [], ◌∷◌, ◌++◌, map}
-use Rattle.std.proofs.Common.{Option, None, Some}
+use Rattle.std.proofs.Common.{slice_get, Option, None, Some}
 use Prim.Native.Nat.{ℕ, suc, zero, ◌+◌, ◌-◌, ◌≤◌, ◌<◌}
 use native.Mathlib.Nat.{not-suc-le-zero, le_of_suc-le-suc}
 use native.Mathlib.Omega.{arith}
-use lib.ListN.{length, drop, get_or, get_elem?}
+use lib.ListN.{length, drop, get_or}
 use lib.Dec.{eqb, ltb}
 use borrow.Author.Tests.{eqb-true, eq-eqb, ne_eqb, lt-ltb, le-ltb}
 use Rattle.laws.specs.Bits.{num, bits_of, value_of}
@@ -210,7 +210,7 @@ all_forms : (below (are_from 0 spelled_at) 37 ≡ true) × (below (are_from 37 (
 unfolding below are_from form_key same spelled_at paired_at named_at counted_at name_at form_of symbol_form pair_form fixed_form numbered_form wide_row pair_rows fixed_rows numbered_rows long call_alphabet pick
 all_forms = (refl, refl, refl, refl, refl, refl, refl, refl, refl)
 
-no_element : (l : List ℕ) (i : ℕ) → length l ≤ i → get_elem? l i ≡ None
+no_element : (l : List ℕ) (i : ℕ) → length l ≤ i → slice_get l i ≡ None
 no_element [] i h = refl
 no_element (x ∷ l) zero h = absurd (not-suc-le-zero h)
 no_element (x ∷ l) (suc i) h = no_element l i (le_of_suc-le-suc h)

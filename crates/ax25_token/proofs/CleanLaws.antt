@@ -4,8 +4,7 @@ use mathlib.Core.Path.{◌≡◌, refl, sym, ap₂, ◌∙◌}
 use mathlib.Core.Logic.{◌⊎◌, inl, inr}
 use mathlib.Core.Bool.{Bool, true, false, ◌&&◌, ◌||◌, not, false≢true}
 use mathlib.Core.List.{List, [], ◌∷◌, ◌++◌, map, append-nil, map-append}
-use mathlib.Core.Option
-use Rattle.std.proofs.Common.{Option, None, Some}
+use Rattle.std.proofs.Common.{unwrap_or, Option, None, Some}
 use Prim.Native.Nat.{ℕ, zero, suc, ◌≤◌, ◌<◌}
 use native.Mathlib.Omega.{arith}
 use lib.ListN.{drop, get_or}
@@ -34,7 +33,7 @@ letter_or_digit x e =
 
 -- its code
 unfoldable pub alpha_code : ℕ → ℕ
-alpha_code x = Option.get_or (alpha_of x) 0
+alpha_code x = unwrap_or (alpha_of x) 0
 
 -- what is known of a clean letter
 pub record Spelt (x : ℕ) : Type 0 where
@@ -69,7 +68,7 @@ clean_lt x e = below_91 (letter_or_digit x e)
     below_91 (inl p) = omega arith
     below_91 (inr p) = omega arith
 
-is_some_lem : (o : Option ℕ) → is_some o ≡ true → o ≡ Some (Option.get_or o 0)
+is_some_lem : (o : Option ℕ) → is_some o ≡ true → o ≡ Some (unwrap_or o 0)
 unfolding is_some
 is_some_lem None e = absurd (false≢true e)
 is_some_lem (Some v) e = refl

@@ -15,12 +15,6 @@ use Rattle.laws.specs.Pick.{pick}
 use Rattle.laws.specs.Text.{ascii, same, is_one_of, starts, later, position}
 use Rattle.laws.proofs.Cases.{by_test, by_le, and_left, and_right}
 use Rattle.laws.proofs.TextLaws.{same_eq, eq_same, ne_same, starts_eq, starts_append, starts_short}
-use Rattle.ax25_token.specs.declared.encode.Code.{Code}
-use Rattle.ax25_token.specs.declared.encode.Code.TheVariants.{Is, Nothing}
-use Rattle.ax25_token.specs.declared.names.Row.{Row}
-use Rattle.ax25_token.specs.declared.names.Row.TheVariants.{Paired, Unpaired}
-use Rattle.ax25_token.specs.declared.names.Counted.{Counted}
-use Rattle.ax25_token.specs.declared.names.Counted.TheVariants.{Count, Uncounted}
 use Rattle.ax25_token.specs.Put.{wide_ends, paired_bits, row_bits, SmallRow, coded_bits, counted_bits, SmallCount, in_range, unnamed_bits, unpaired_bits}
 use Rattle.ax25_token.specs.Tables.{long, sym_of, Numbered, wide_tokens, wide_row, pair_rows, pair_texts, fixed_rows, numbered_rows}
 use Rattle.ax25_token.specs.Token.{hyphened, number_at, pair_bits, pairs_bits, fixed_bits, takes, numbered_bits, plain_ap, ap_bits, spelled_bits, or_else, token_bits}
@@ -106,49 +100,49 @@ module _ (t : List ℕ) where
 
 module _ (c : List ℕ) where
   -- what `pair_of` tells
-  abbrev Rows : Row → Type 0
+  abbrev Rows : Option (ℕ × ℕ × ℕ) → Type 0
   Rows r = (row_bits r c ≡ pick (is_one_of c wide_tokens) (Some (pair_bits wide_row c)) (pairs_bits pair_rows c)) × SmallRow r
 
-  pub row_wide : is_one_of c wide_tokens ≡ true → Rows (Paired 37 4 2)
+  pub row_wide : is_one_of c wide_tokens ≡ true → Rows (Some (37, 4, 2))
   unfolding row_bits paired_bits pair_bits wide_row pick sym_of long position later
   row_wide e = (rw e, (omega arith, omega arith))
 
   module _ (a : is_one_of c wide_tokens ≡ false) where
-    pub row_pnw : is_one_of c (pair_texts (ascii "PNW")) ≡ true → Rows (Paired 38 3 1)
+    pub row_pnw : is_one_of c (pair_texts (ascii "PNW")) ≡ true → Rows (Some (38, 3, 1))
     unfolding row_bits paired_bits pair_bits pairs_bits pair_rows pick sym_of long position later
     row_pnw e = (rw (a, e), (omega arith, omega arith))
 
     module _ (b : is_one_of c (pair_texts (ascii "PNW")) ≡ false) where
-      pub row_mw : is_one_of c (pair_texts (ascii "MW")) ≡ true → Rows (Paired 39 2 1)
+      pub row_mw : is_one_of c (pair_texts (ascii "MW")) ≡ true → Rows (Some (39, 2, 1))
       unfolding row_bits paired_bits pair_bits pairs_bits pair_rows pick sym_of long position later
       row_mw e = (rw (a, b, e), (omega arith, omega arith))
 
       module _ (d : is_one_of c (pair_texts (ascii "MW")) ≡ false) where
-        pub row_or : is_one_of c (pair_texts (ascii "OR")) ≡ true → Rows (Paired 40 2 1)
+        pub row_or : is_one_of c (pair_texts (ascii "OR")) ≡ true → Rows (Some (40, 2, 1))
         unfolding row_bits paired_bits pair_bits pairs_bits pair_rows pick sym_of long position later
         row_or e = (rw (a, b, d, e), (omega arith, omega arith))
 
         module _ (f : is_one_of c (pair_texts (ascii "OR")) ≡ false) where
-          pub row_wa : is_one_of c (pair_texts (ascii "WA")) ≡ true → Rows (Paired 41 2 1)
+          pub row_wa : is_one_of c (pair_texts (ascii "WA")) ≡ true → Rows (Some (41, 2, 1))
           unfolding row_bits paired_bits pair_bits pairs_bits pair_rows pick sym_of long position later
           row_wa e = (rw (a, b, d, f, e), (omega arith, omega arith))
 
-          pub row_none : is_one_of c (pair_texts (ascii "WA")) ≡ false → Rows Unpaired
+          pub row_none : is_one_of c (pair_texts (ascii "WA")) ≡ false → Rows None
           unfolding row_bits pairs_bits pair_rows pick
           row_none e = (rw (a, b, d, f, e), tt)
 
-pub small_row : (r : Row) (i k w : ℕ) → SmallRow r → r ≡ Paired i k w → (k ≤ 4) × (w ≤ 2)
+pub small_row : (r : Option (ℕ × ℕ × ℕ)) (i k w : ℕ) → SmallRow r → r ≡ Some (i, k, w) → (k ≤ 4) × (w ≤ 2)
 small_row r i k w s e = subst SmallRow e s
 
 -- ---- the rows of FIXED
 
 module _ (c : List ℕ) where
-  pub fixed_all : same c (ascii "ALL") ≡ true → coded_bits (Is 42) ≡ fixed_bits fixed_rows c
+  pub fixed_all : same c (ascii "ALL") ≡ true → coded_bits (Some 42) ≡ fixed_bits fixed_rows c
   unfolding coded_bits fixed_bits fixed_rows pick sym_of long position later
   fixed_all e = rw e
 
   module _ (a : same c (ascii "ALL") ≡ false) where
-    pub fixed_cq : same c (ascii "CQ") ≡ true → coded_bits (Is 43) ≡ fixed_bits fixed_rows c
+    pub fixed_cq : same c (ascii "CQ") ≡ true → coded_bits (Some 43) ≡ fixed_bits fixed_rows c
     unfolding coded_bits fixed_bits fixed_rows pick sym_of long position later
     fixed_cq e = rw (a, e)
 
@@ -156,34 +150,34 @@ module _ (c : List ℕ) where
     unfolding fixed_bits fixed_rows pick
     fixed_later e = rw (a, e)
 
-  abbrev Later : Code → Type 0
+  abbrev Later : Option ℕ → Type 0
   Later r = coded_bits r ≡ fixed_bits (drop 2 fixed_rows) c
 
-  pub fixed_bpq : same c (ascii "APBPQ1") ≡ true → Later (Is 47)
+  pub fixed_bpq : same c (ascii "APBPQ1") ≡ true → Later (Some 47)
   unfolding coded_bits fixed_bits fixed_rows pick sym_of long position later
   fixed_bpq e = rw e
 
   module _ (a : same c (ascii "APBPQ1") ≡ false) where
-    pub fixed_jyc : same c (ascii "APJYC1") ≡ true → Later (Is 48)
+    pub fixed_jyc : same c (ascii "APJYC1") ≡ true → Later (Some 48)
     unfolding coded_bits fixed_bits fixed_rows pick sym_of long position later
     fixed_jyc e = rw (a, e)
 
     module _ (b : same c (ascii "APJYC1") ≡ false) where
-      pub fixed_opy : same c (ascii "APOPYT") ≡ true → Later (Is 49)
+      pub fixed_opy : same c (ascii "APOPYT") ≡ true → Later (Some 49)
       unfolding coded_bits fixed_bits fixed_rows pick sym_of long position later
       fixed_opy e = rw (a, b, e)
 
       module _ (d : same c (ascii "APOPYT") ≡ false) where
-        pub fixed_u25 : same c (ascii "APU25N") ≡ true → Later (Is 50)
+        pub fixed_u25 : same c (ascii "APU25N") ≡ true → Later (Some 50)
         unfolding coded_bits fixed_bits fixed_rows pick sym_of long position later
         fixed_u25 e = rw (a, b, d, e)
 
         module _ (f : same c (ascii "APU25N") ≡ false) where
-          pub fixed_vara : same c (ascii "APVARA") ≡ true → Later (Is 51)
+          pub fixed_vara : same c (ascii "APVARA") ≡ true → Later (Some 51)
           unfolding coded_bits fixed_bits fixed_rows pick sym_of long position later
           fixed_vara e = rw (a, b, d, f, e)
 
-          pub fixed_none : same c (ascii "APVARA") ≡ false → Later Nothing
+          pub fixed_none : same c (ascii "APVARA") ≡ false → Later None
           unfolding coded_bits fixed_bits fixed_rows pick
           fixed_none e = rw (a, b, d, f, e)
 
@@ -219,35 +213,35 @@ module _ (c : List ℕ) (v : ℕ) (h : hyphened c ≡ false) (e : v ≡ number_a
   count_next n ns f = numbered_next c n ns (sym (range_takes n) ∙ f)
 
   count_here : (n : Numbered) (ns : List Numbered) → in_range n.name n.low n.high v c ≡ true
-      → counted_bits (Count (sym_of n.sym) (v - n.low) n.width) ≡ numbered_bits (n ∷ ns) c
+      → counted_bits (Some ((sym_of n.sym), (v - n.low), n.width)) ≡ numbered_bits (n ∷ ns) c
   unfolding counted_bits
   count_here n ns f =
       sym (numbered_here c n ns (sym (range_takes n) ∙ f)
       ∙ ap (λ (x : ℕ). Some (bits_of 6 (sym_of n.sym) ++ bits_of n.width (x - n.low))) (sym e))
 
   -- what `numbered_of` tells
-  abbrev Counts : Counted → Type 0
+  abbrev Counts : Option (ℕ × ℕ × ℕ) → Type 0
   Counts r = (counted_bits r ≡ numbered_bits numbered_rows c) × SmallCount r
 
-  pub count_apin : in_range (ascii "APIN") 20 36 v c ≡ true → Counts (Count 44 (v - 20) 4)
+  pub count_apin : in_range (ascii "APIN") 20 36 v c ≡ true → Counts (Some (44, (v - 20), 4))
   unfolding numbered_rows sym_of long position later pick
   count_apin f = (count_here _ _ f, omega arith)
 
   module _ (a : in_range (ascii "APIN") 20 36 v c ≡ false) where
-    pub count_apww : in_range (ascii "APWW") 11 19 v c ≡ true → Counts (Count 45 (v - 11) 3)
+    pub count_apww : in_range (ascii "APWW") 11 19 v c ≡ true → Counts (Some (45, (v - 11), 3))
     unfolding numbered_rows sym_of long position later pick
     count_apww f = (count_here _ _ f ∙ sym (count_next _ _ a), omega arith)
 
     module _ (b : in_range (ascii "APWW") 11 19 v c ≡ false) where
-      pub count_apdr : in_range (ascii "APDR") 16 48 v c ≡ true → Counts (Count 46 (v - 16) 5)
+      pub count_apdr : in_range (ascii "APDR") 16 48 v c ≡ true → Counts (Some (46, (v - 16), 5))
       unfolding numbered_rows sym_of long position later pick
       count_apdr f = (count_here _ _ f ∙ sym (count_next _ _ a ∙ count_next _ _ b), omega arith)
 
-      pub count_none : in_range (ascii "APDR") 16 48 v c ≡ false → Counts Uncounted
+      pub count_none : in_range (ascii "APDR") 16 48 v c ≡ false → Counts None
       unfolding numbered_rows counted_bits
       count_none f = (sym (count_next _ _ a ∙ count_next _ _ b ∙ count_next _ _ f ∙ no_rows c), tt)
 
-pub small_count : (r : Counted) (i v w : ℕ) → SmallCount r → r ≡ Count i v w → w ≤ 5
+pub small_count : (r : Option (ℕ × ℕ × ℕ)) (i v w : ℕ) → SmallCount r → r ≡ Some (i, v, w) → w ≤ 5
 small_count r i v w s e = subst SmallCount e s
 
 -- ---- a digit
@@ -314,12 +308,12 @@ unfolding or_else
 or_some o x b e = rw e
 
 module _ (l : ℕ) (c : List ℕ) where
-  module _ (r : Counted) (e : counted_bits r ≡ numbered_bits numbered_rows c) where
-    pub plain_uncounted : r ≡ Uncounted → or_else (numbered_bits numbered_rows c) (ap_bits l c) ≡ ap_bits l c
+  module _ (r : Option (ℕ × ℕ × ℕ)) (e : counted_bits r ≡ numbered_bits numbered_rows c) where
+    pub plain_uncounted : r ≡ None → or_else (numbered_bits numbered_rows c) (ap_bits l c) ≡ ap_bits l c
     unfolding counted_bits
     plain_uncounted q = or_none (numbered_bits numbered_rows c) (ap_bits l c) (sym e ∙ ap counted_bits q)
 
-    pub plain_counted : (i v w : ℕ) → r ≡ Count i v w → or_else (numbered_bits numbered_rows c) (ap_bits l c) ≡ Some (bits_of 6 i ++ bits_of w v)
+    pub plain_counted : (i v w : ℕ) → r ≡ Some (i, v, w) → or_else (numbered_bits numbered_rows c) (ap_bits l c) ≡ Some (bits_of 6 i ++ bits_of w v)
     unfolding counted_bits
     plain_counted i v w q = or_some (numbered_bits numbered_rows c) (ap_bits l c) (bits_of 6 i ++ bits_of w v) (sym e ∙ ap counted_bits q)
 
@@ -331,12 +325,12 @@ module _ (l : ℕ) (c : List ℕ) where
   unfolding unnamed_bits pick
   unnamed_other e = rw e (or_none (numbered_bits numbered_rows c) (spelled_bits l c) (numbered_none numbered_rows c all_ap e))
 
-  module _ (r : Code) (e : coded_bits r ≡ fixed_bits fixed_rows c) where
-    pub unpaired_unnamed : r ≡ Nothing → unpaired_bits l c ≡ unnamed_bits l c
+  module _ (r : Option ℕ) (e : coded_bits r ≡ fixed_bits fixed_rows c) where
+    pub unpaired_unnamed : r ≡ None → unpaired_bits l c ≡ unnamed_bits l c
     unfolding unpaired_bits coded_bits
     unpaired_unnamed q = or_none (fixed_bits fixed_rows c) (unnamed_bits l c) (sym e ∙ ap coded_bits q)
 
-    pub unpaired_fixed : (i : ℕ) → r ≡ Is i → unpaired_bits l c ≡ Some (bits_of 6 i)
+    pub unpaired_fixed : (i : ℕ) → r ≡ Some i → unpaired_bits l c ≡ Some (bits_of 6 i)
     unfolding unpaired_bits coded_bits
     unpaired_fixed i q = or_some (fixed_bits fixed_rows c) (unnamed_bits l c) (bits_of 6 i) (sym e ∙ ap coded_bits q)
 
@@ -344,11 +338,11 @@ module _ (l : ℕ) (c : List ℕ) where
   unfolding token_bits unpaired_bits unnamed_bits or_else pick
   by_rows = by_test (is_one_of c wide_tokens) (λ e. rw e) (λ e. rw e)
 
-  module _ (r : Row) (e : row_bits r c ≡ pick (is_one_of c wide_tokens) (Some (pair_bits wide_row c)) (pairs_bits pair_rows c)) where
-    pub token_unpaired : r ≡ Unpaired → token_bits l c ≡ unpaired_bits l c
+  module _ (r : Option (ℕ × ℕ × ℕ)) (e : row_bits r c ≡ pick (is_one_of c wide_tokens) (Some (pair_bits wide_row c)) (pairs_bits pair_rows c)) where
+    pub token_unpaired : r ≡ None → token_bits l c ≡ unpaired_bits l c
     unfolding row_bits
-    token_unpaired q = by_rows ∙ or_none _ (unpaired_bits l c) (sym e ∙ ap (λ (x : Row). row_bits x c) q)
+    token_unpaired q = by_rows ∙ or_none _ (unpaired_bits l c) (sym e ∙ ap (λ (x : Option (ℕ × ℕ × ℕ)). row_bits x c) q)
 
-    pub token_paired : (i k w : ℕ) → r ≡ Paired i k w → token_bits l c ≡ Some (paired_bits i k w c)
+    pub token_paired : (i k w : ℕ) → r ≡ Some (i, k, w) → token_bits l c ≡ Some (paired_bits i k w c)
     unfolding row_bits
-    token_paired i k w q = by_rows ∙ or_some _ (unpaired_bits l c) (paired_bits i k w c) (sym e ∙ ap (λ (x : Row). row_bits x c) q)
+    token_paired i k w q = by_rows ∙ or_some _ (unpaired_bits l c) (paired_bits i k w c) (sym e ∙ ap (λ (x : Option (ℕ × ℕ × ℕ)). row_bits x c) q)

@@ -18,8 +18,6 @@ use Rattle.laws.specs.Wrote.{Wrote}
 use Rattle.laws.proofs.Cases.{by_test, by_le, and_left}
 use Rattle.laws.proofs.TextLaws.{eq_same, ne_same, starts_eq, starts_append, starts_short}
 use Rattle.laws.proofs.WroteLaws.{wrote_none, wrote_then}
-use Rattle.ax25_token.specs.declared.encode.Put.{Put}
-use Rattle.ax25_token.specs.declared.encode.Put.TheVariants.{Next, Bad}
 use Rattle.ax25_token.specs.Put.{cased_of, Puts}
 use Rattle.ax25_token.specs.Tables.{sym_of, alpha_of}
 use Rattle.bits.specs.Val.{val_of}
@@ -36,74 +34,74 @@ pub record Gave (o : Option (List Bool)) (b : List Bool) (at : ℕ) (c : List Bo
   pub wrote : Wrote b at bits c p
 
 module _ (b : List Bool) (at : ℕ) (c : List Bool) where
-  pub gave : (o : Option (List Bool)) (t : Put) (p : ℕ) → t ≡ Next p → Puts b at o c t → Gave o b at c p
-  gave o t p e h = by o (subst (λ (u : Put). Puts b at o c u) e h)
+  pub gave : (o : Option (List Bool)) (t : Option ℕ) (p : ℕ) → t ≡ Some p → Puts b at o c t → Gave o b at c p
+  gave o t p e h = by o (subst (λ (u : Option ℕ). Puts b at o c u) e h)
     where
-      by : (o : Option (List Bool)) → Puts b at o c (Next p) → Gave o b at c p
+      by : (o : Option (List Bool)) → Puts b at o c (Some p) → Gave o b at c p
       by None k = absurd k
       by (Some x) k = record { bits = x; is = refl; wrote = k }
 
-  pub bad : (o : Option (List Bool)) (t : Put) → t ≡ Bad → Puts b at o c t → o ≡ None
-  bad o t e h = by o (subst (λ (u : Put). Puts b at o c u) e h)
+  pub bad : (o : Option (List Bool)) (t : Option ℕ) → t ≡ None → Puts b at o c t → o ≡ None
+  bad o t e h = by o (subst (λ (u : Option ℕ). Puts b at o c u) e h)
     where
-      by : (o : Option (List Bool)) → Puts b at o c Bad → o ≡ None
+      by : (o : Option (List Bool)) → Puts b at o c None → o ≡ None
       by None k = refl
       by (Some x) k = absurd k
 
-  pub puts : {o : Option (List Bool)} (x : List Bool) (p : ℕ) → o ≡ Some x → Wrote b at x c p → Puts b at o c (Next p)
+  pub puts : {o : Option (List Bool)} (x : List Bool) (p : ℕ) → o ≡ Some x → Wrote b at x c p → Puts b at o c (Some p)
   puts x p e w = rw e w
 
-  pub puts_none : {o : Option (List Bool)} → o ≡ None → Puts b at o c Bad
+  pub puts_none : {o : Option (List Bool)} → o ≡ None → Puts b at o c None
   puts_none e = rw e tt
 
 -- ---- an answer after bits
 
-pub puts_after : {b d : List Bool} {at q : ℕ} {x : List Bool} → Wrote b at x d q → (o : Option (List Bool)) (e : List Bool) (r : Put)
+pub puts_after : {b d : List Bool} {at q : ℕ} {x : List Bool} → Wrote b at x d q → (o : Option (List Bool)) (e : List Bool) (r : Option ℕ)
     → Puts d q o e r → Puts b at (o >>= λ y. Some (x ++ y)) e r
-puts_after w None e (Next n) h = h
-puts_after w None e Bad h = h
-puts_after w (Some y) e (Next n) h = wrote_then w h
-puts_after w (Some y) e Bad h = h
+puts_after w None e (Some n) h = h
+puts_after w None e None h = h
+puts_after w (Some y) e (Some n) h = wrote_then w h
+puts_after w (Some y) e None h = h
 
 -- before bits
-pub puts_before : (b d e : List Bool) (at p q : ℕ) (z : List Bool) (o : Option (List Bool)) → Puts b at o d (Next p) → Wrote d p z e q
-    → Puts b at (o >>= λ y. Some (y ++ z)) e (Next q)
+pub puts_before : (b d e : List Bool) (at p q : ℕ) (z : List Bool) (o : Option (List Bool)) → Puts b at o d (Some p) → Wrote d p z e q
+    → Puts b at (o >>= λ y. Some (y ++ z)) e (Some q)
 puts_before b d e at p q z None h w = absurd h
 puts_before b d e at p q z (Some y) h w = wrote_then h w
 
 -- between bits
 pub around : (b : List Bool) (at : ℕ) (d : List Bool) (p : ℕ) (x : List Bool) → Wrote b at x d p
-    → (o : Option (List Bool)) (e : List Bool) (q : ℕ) → Puts d p o e (Next q)
-    → (z g : List Bool) (n : ℕ) → Wrote e q z g n → Puts b at (o >>= λ y. Some (x ++ (y ++ z))) g (Next n)
+    → (o : Option (List Bool)) (e : List Bool) (q : ℕ) → Puts d p o e (Some q)
+    → (z g : List Bool) (n : ℕ) → Wrote e q z g n → Puts b at (o >>= λ y. Some (x ++ (y ++ z))) g (Some n)
 around b at d p x w None e q h z g n v = absurd h
 around b at d p x w (Some y) e q h z g n v = wrote_then w (wrote_then h v)
 
-pub puts_bad : (b d e g : List Bool) (at p : ℕ) (f : List Bool → List Bool) (o : Option (List Bool)) → Puts d p o e Bad
-    → Puts b at (o >>= λ y. Some (f y)) g Bad
+pub puts_bad : (b d e g : List Bool) (at p : ℕ) (f : List Bool → List Bool) (o : Option (List Bool)) → Puts d p o e None
+    → Puts b at (o >>= λ y. Some (f y)) g None
 puts_bad b d e g at p f None h = h
 puts_bad b d e g at p f (Some y) h = absurd h
 
 -- ---- the letters from a place on
 
-size_by : (b d : List Bool) (at p : ℕ) (xs : List ℕ) (o : Option (List Bool)) → spell xs ≡ o → Puts b at o d (Next p) → p ≡ at + 6 * length xs
+size_by : (b d : List Bool) (at p : ℕ) (xs : List ℕ) (o : Option (List Bool)) → spell xs ≡ o → Puts b at o d (Some p) → p ≡ at + 6 * length xs
 size_by b d at p xs None e h = absurd h
 size_by b d at p xs (Some y) e h = omega (arith, h.next_is, spell_size xs y e)
 
-pub letters_size : (b d : List Bool) (at p : ℕ) (f : ℕ → ℕ) (s : List ℕ) (t : Put) → t ≡ Next p → Puts b at (spell (map f s)) d t → p ≡ at + 6 * length s
+pub letters_size : (b d : List Bool) (at p : ℕ) (f : ℕ → ℕ) (s : List ℕ) (t : Option ℕ) → t ≡ Some p → Puts b at (spell (map f s)) d t → p ≡ at + 6 * length s
 letters_size b d at p f s t q h =
-    let k = subst (λ (u : Put). Puts b at (spell (map f s)) d u) q h in
+    let k = subst (λ (u : Option ℕ). Puts b at (spell (map f s)) d u) q h in
     omega (arith, size_by b d at p (map f s) (spell (map f s)) refl k, length-map s f)
 
 module _ (f : ℕ → ℕ) (s : List ℕ) (i : ℕ) (b : List Bool) (p : ℕ) where
-  pub drop_end : length s ≤ i → Puts b p (spell (map f (drop i s))) b (Next p)
+  pub drop_end : length s ≤ i → Puts b p (spell (map f (drop i s))) b (Some p)
   unfolding spell
   drop_end h = rw (drop_of_length-le s h) wrote_none
 
-  pub drop_bad : i < length s → alpha_of (f (get_or s i 0)) ≡ None → (d : List Bool) → Puts b p (spell (map f (drop i s))) d Bad
+  pub drop_bad : i < length s → alpha_of (f (get_or s i 0)) ≡ None → (d : List Bool) → Puts b p (spell (map f (drop i s))) d None
   drop_bad h e d = rw (drop-cons s i 0 h, spell_bad (f (get_or s i 0)) (map f (drop (suc i) s)) e) tt
 
   pub drop_more : i < length s → (v : ℕ) → alpha_of (f (get_or s i 0)) ≡ Some v → (q : ℕ) (d : List Bool) → Wrote b p (bits_of 6 v) d q
-      → (e : List Bool) (r : Put) → Puts d q (spell (map f (drop (i + 1) s))) e r → Puts b p (spell (map f (drop i s))) e r
+      → (e : List Bool) (r : Option ℕ) → Puts d q (spell (map f (drop (i + 1) s))) e r → Puts b p (spell (map f (drop i s))) e r
   unfolding spell
   drop_more h v a q d w e r k = rw (drop-cons s i 0 h, a) (puts_after w (spell (map f (drop (suc i) s))) e r (rw add-one at k))
 
@@ -148,39 +146,39 @@ behind_drop (x ∷ c) = by_test (eqb x 45) (λ e. rw e) (λ e. rw e (behind_drop
 -- ---- the AP form
 
 module _ (b : List Bool) (at l : ℕ) (c s : List ℕ) (rest : s ≡ drop 2 c) (d : List Bool) (p : ℕ) (w : Wrote b at (bits_of 6 52) d p)
-    (t : Put) (e : List Bool) (k : Puts d p (spell (map (cased_of false) s)) e t) where
-  ap_told : (u : Put) → t ≡ u → Puts d p (spell (drop 2 c)) e u
+    (t : Option ℕ) (e : List Bool) (k : Puts d p (spell (map (cased_of false) s)) e t) where
+  ap_told : (u : Option ℕ) → t ≡ u → Puts d p (spell (drop 2 c)) e u
   ap_told u q =
       subst (λ (o : Option (List Bool)). Puts d p o e u) (ap spell (map_plain s ∙ rest))
-      (subst (λ (v : Put). Puts d p (spell (map (cased_of false) s)) e v) q k)
+      (subst (λ (v : Option ℕ). Puts d p (spell (map (cased_of false) s)) e v) q k)
 
-  pub ap_next : (q : ℕ) → t ≡ Next q → (g : List Bool) (n : ℕ) → Wrote e q (ending l (length c)) g n → Puts b at (ap_bits l c) g (Next n)
+  pub ap_next : (q : ℕ) → t ≡ Some q → (g : List Bool) (n : ℕ) → Wrote e q (ending l (length c)) g n → Puts b at (ap_bits l c) g (Some n)
   unfolding ap_bits
-  ap_next q z g n v = rw ap_symbol (around b at d p (bits_of 6 52) w (spell (drop 2 c)) e q (ap_told (Next q) z) (ending l (length c)) g n v)
+  ap_next q z g n v = rw ap_symbol (around b at d p (bits_of 6 52) w (spell (drop 2 c)) e q (ap_told (Some q) z) (ending l (length c)) g n v)
 
-  pub ap_refused : t ≡ Bad → (g : List Bool) → Puts b at (ap_bits l c) g Bad
+  pub ap_refused : t ≡ None → (g : List Bool) → Puts b at (ap_bits l c) g None
   unfolding ap_bits
-  ap_refused z g = puts_bad b d e g at p (λ y. bits_of 6 (sym_of 59) ++ (y ++ ending l (length c))) (spell (drop 2 c)) (ap_told Bad z)
+  ap_refused z g = puts_bad b d e g at p (λ y. bits_of 6 (sym_of 59) ++ (y ++ ending l (length c))) (spell (drop 2 c)) (ap_told None z)
 
 -- ---- a spelled call
 
-module _ (b : List Bool) (at l : ℕ) (c s : List ℕ) (whole : s ≡ base_of c) (t : Put) (e : List Bool) (k : Puts b at (spell (map (cased_of true) s)) e t) where
-  spelled_told : (u : Put) → t ≡ u → Puts b at (spell (map upper (base_of c))) e u
+module _ (b : List Bool) (at l : ℕ) (c s : List ℕ) (whole : s ≡ base_of c) (t : Option ℕ) (e : List Bool) (k : Puts b at (spell (map (cased_of true) s)) e t) where
+  spelled_told : (u : Option ℕ) → t ≡ u → Puts b at (spell (map upper (base_of c))) e u
   spelled_told u q =
       subst (λ (o : Option (List Bool)). Puts b at o e u) (ap spell (map_up s ∙ ap (map upper) whole))
-      (subst (λ (v : Put). Puts b at (spell (map (cased_of true) s)) e v) q k)
+      (subst (λ (v : Option ℕ). Puts b at (spell (map (cased_of true) s)) e v) q k)
 
-  pub spelled_next : (q : ℕ) → t ≡ Next q → (m v : ℕ) → m ≡ length (base_of c) → v ≡ val_of (behind c) → (g h : List Bool) (n r : ℕ)
-      → Wrote e q (ending l m) g n → Wrote g n (bits_of 4 v) h r → Puts b at (spelled_bits l c) h (Next r)
+  pub spelled_next : (q : ℕ) → t ≡ Some q → (m v : ℕ) → m ≡ length (base_of c) → v ≡ val_of (behind c) → (g h : List Bool) (n r : ℕ)
+      → Wrote e q (ending l m) g n → Wrote g n (bits_of 4 v) h r → Puts b at (spelled_bits l c) h (Some r)
   unfolding spelled_bits
   spelled_next q z m v i j g h n r x y =
-      puts_before b e h at q r (ending l (length (base_of c)) ++ bits_of 4 (val_of (behind c))) (spell (map upper (base_of c))) (spelled_told (Next q) z)
+      puts_before b e h at q r (ending l (length (base_of c)) ++ bits_of 4 (val_of (behind c))) (spell (map upper (base_of c))) (spelled_told (Some q) z)
       (wrote_then (rw i at x) (rw j at y))
 
-  pub spelled_refused : t ≡ Bad → (g : List Bool) → Puts b at (spelled_bits l c) g Bad
+  pub spelled_refused : t ≡ None → (g : List Bool) → Puts b at (spelled_bits l c) g None
   unfolding spelled_bits
   spelled_refused z g =
-      puts_bad b b e g at at (λ y. y ++ (ending l (length (base_of c)) ++ bits_of 4 (val_of (behind c)))) (spell (map upper (base_of c))) (spelled_told Bad z)
+      puts_bad b b e g at at (λ y. y ++ (ending l (length (base_of c)) ++ bits_of 4 (val_of (behind c)))) (spell (map upper (base_of c))) (spelled_told None z)
 
 -- ---- a hyphen, by how much stands before it
 

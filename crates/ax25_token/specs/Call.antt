@@ -1,14 +1,9 @@
 -- A call in 16 bytes, and what an answer of `token_decode` stands for.
 -- Assumes nothing.
-use Rattle.std.specs.Prelude.{Bool, List, [], ◌∷◌, ℕ, ◌+◌, take, drop, set, replicate}
-use Rattle.std.specs.Prelude.{Option, None, Some}
+use Rattle.std.specs.Prelude.{Bool, List, [], ◌∷◌, ℕ, Option, None, Some, IfSome, ◌+◌, ◌≤◌, take, drop, set, replicate}
 use Rattle.bits.specs.Read.{taken}
-use Rattle.bits.specs.declared.read.Taken.{Taken}
 use Rattle.ax25_token.specs.Token.{wide_number, Form, spelled, paired, named, counted, begun, no_token}
 use Rattle.ax25_token.specs.declared.Call.{Call}
-use Rattle.ax25_token.specs.declared.Token.{Token}
-use Rattle.ax25_token.specs.declared.Token.TheVariants.{Next, Nothing}
-use Rattle.ax25_token.specs.declared.Decoded.{Decoded}
 
 -- the text of a call
 unfoldable pub text_of : Call → List ℕ
@@ -26,12 +21,13 @@ appended c [] = c
 appended c (b ∷ bs) = appended (pushed c b) bs
 
 -- an answer: the call, and the bits from the next position on
-unfoldable pub call_by : List Bool → Call → Token → Option (Call × List Bool)
-call_by b c (Next p) = Some (c, drop p b)
-call_by b c Nothing = None
+unfoldable pub call_of : List Bool → Option (Call × ℕ) → Option (Call × List Bool)
+call_of b None = None
+call_of b (Some (c, p)) = Some (c, drop p b)
 
-unfoldable pub call_of : List Bool → Decoded → Option (Call × List Bool)
-call_of b r = call_by b r.call r.token
+-- the call has at most n letters, if there is one
+abbrev pub UpTo : ℕ → Option (Call × ℕ) → Type 0
+UpTo n r = IfSome r (λ d. d.0.len ≤ n)
 
 -- its text instead of the call
 unfoldable pub texts : Option (Call × List Bool) → Option (List ℕ × List Bool)
@@ -53,5 +49,5 @@ form_name begun = []
 form_name no_token = []
 
 -- the answer to a reading of the number after a digit, at a position of all bits
-abbrev pub took_wide : Bool → ℕ → List Bool → ℕ → Taken
+abbrev pub took_wide : Bool → ℕ → List Bool → ℕ → Option (ℕ × ℕ)
 took_wide mended w b at = taken (at + w) (wide_number mended w (drop at b))

@@ -1,8 +1,7 @@
 -- A call token: its bits (`token_encode`), and what is read from bits (`token_decode`).
 -- Assumes nothing.
-use Rattle.std.specs.Prelude.{Bool, true, false, ◌&&◌, ◌||◌, not, List, [], ◌∷◌, ◌++◌, map, ℕ, zero, suc, ◌+◌, ◌-◌, ◌/◌, ◌%◌, length, take, drop, get_or, eqb, ltb, leb}
+use Rattle.std.specs.Prelude.{slice_get, Bool, true, false, ◌&&◌, ◌||◌, not, List, [], ◌∷◌, ◌++◌, map, ℕ, zero, suc, ◌+◌, ◌-◌, ◌/◌, ◌%◌, length, take, drop, get_or, eqb, ltb, leb}
 use Rattle.std.specs.Prelude.{Option, None, Some}
-use Rattle.std.proofs.Math.ListN.{get_elem?}
 use Rattle.laws.specs.Bits.{num, bits_of}
 use Rattle.laws.specs.Pick.{pick, ◌>>=◌}
 use Rattle.laws.specs.Text.{ascii, upper, same, is_one_of, starts}
@@ -144,7 +143,7 @@ symbol_form (Some s) =
 
 -- "0 to 36 start a spelled call, 37 to 52 name `PAIRS`, `FIXED`, `NUMBERED` and the AP form, 53 to 63 are no token"
 unfoldable pub form_of : ℕ → Form
-form_of i = symbol_form (get_elem? long i)
+form_of i = symbol_form (slice_get long i)
 
 -- the number after the digit, of w bits. The original reading, false, takes them as decimal digits, so that 10 and 11 are ten and eleven;
 -- true is "a mended reading in which the last two bits of a WIDE token are a binary number" (02, E5). The other pairs have one bit

@@ -5,27 +5,13 @@ ghost use Rattle.laws.specs.Text.{same, is_one_of, starts};
 ghost use Rattle.laws.specs.Wrote.{Wrote};
 ghost use Rattle.bits.specs.Val.{val_of};
 ghost use Rattle.ax25_token.specs.Call.{text_of};
-ghost use Rattle.ax25_token.specs.Put.{code_view, cased_of, paired_bits, unnamed_bits, unpaired_bits, Puts};
+ghost use Rattle.ax25_token.specs.Put.{cased_of, paired_bits, unnamed_bits, unpaired_bits, Puts};
 ghost use Rattle.ax25_token.specs.Tables.{alpha_of, letter_codes, numbered_rows};
 ghost use Rattle.ax25_token.specs.Token.{base_of, behind, number_at, numbered_bits, spell, ending, plain_ap, ap_bits, spelled_bits, or_else, token_bits};
 
 use crate::Call;
-use crate::names::{Counted, Row, fixed_of, numbered_of, pair_of, two_at};
+use crate::names::{fixed_of, numbered_of, pair_of, two_at};
 use bits_write::push;
-
-// The next position, or a bad call.
-#[derive(Clone, Copy)]
-pub enum Put {
-    Next(usize),
-    Bad,
-}
-
-// The code of a letter, or none.
-#[derive(Clone, Copy)]
-pub enum Code {
-    Is(u64),
-    Nothing,
-}
 
 // The letter codes of all bytes, sixteen a row, 255 for none: the inverse of CALL_ALPHABET.
 const CODES: [u8; 256] = *b"\
@@ -47,16 +33,16 @@ const CODES: [u8; 256] = *b"\
     \xFF\xFF\xFF\xFF\xFF\xFF\xFF\xFF\xFF\xFF\xFF\xFF\xFF\xFF\xFF\xFF";
 
 // The code of a letter. The table is lent: each use of the constant would copy it.
-fn alpha(codes: &[u8; 256], x: u8) -> Code
+fn alpha(codes: &[u8; 256], x: u8) -> Option<u64>
     requires { codes.now ≡ letter_codes }
-    ensures { code_view result ≡ alpha_of x }
+    ensures { result ≡ alpha_of x }
 {
     let i = x as usize;
     let v = codes[i];
     if v < 37 {
-        return Code::Is(v as u64);
+        return Some(v as u64);
     }
-    Code::Nothing
+    None
 }
 
 // A byte, in upper case where that is asked for.
@@ -76,7 +62,7 @@ pub fn cased(x: u8, up: bool) -> u8
 }
 
 // The letters, 6 bits each.
-fn put_letters(c: &[u8], up: bool, out: &mut [u8], at: usize) -> Put
+fn put_letters(c: &[u8], up: bool, out: &mut [u8], at: usize) -> Option<usize>
     requires { (length c.now ≤ 16) × (at < 2 ^ 61) }
     ensures { Puts (unpack out.old) at (spell (map (cased_of up) c.now)) (unpack out.new) result }
 {
@@ -84,13 +70,11 @@ fn put_letters(c: &[u8], up: bool, out: &mut [u8], at: usize) -> Put
     let mut p = at;
     let mut i = 0;
     while i < c.len() {
-        let Code::Is(v) = alpha(codes, cased(c[i], up)) else {
-            return Put::Bad;
-        };
+        let v = alpha(codes, cased(c[i], up))?;
         p = push(out, p, v, 6);
         i += 1;
     }
-    Put::Next(p)
+    Some(p)
 }
 
 // 6 zero bits behind fewer than l letters.
@@ -106,15 +90,13 @@ fn put_end(out: &mut [u8], at: usize, n: usize, l: usize) -> usize
 }
 
 // The AP form: its index, the letters behind AP, and the end.
-fn put_ap(c: &[u8], l: usize, out: &mut [u8], at: usize) -> Put
+fn put_ap(c: &[u8], l: usize, out: &mut [u8], at: usize) -> Option<usize>
     requires { (2 ≤ length c.now) × (length c.now ≤ 16) × (at < 2 ^ 60) }
     ensures { Puts (unpack out.old) at (ap_bits l c.now) (unpack out.new) result }
 {
     let p = push(out, at, 52, 6);
-    let Put::Next(q) = put_letters(&c[2..], false, out, p) else {
-        return Put::Bad;
-    };
-    Put::Next(put_end(out, q, c.len(), l))
+    let q = put_letters(&c[2..], false, out, p)?;
+    Some(put_end(out, q, c.len(), l))
 }
 
 // The place of the first hyphen, or the length.
@@ -143,16 +125,14 @@ fn ssid(c: &[u8], k: usize) -> u64
 }
 
 // A spelled call: the letters before the hyphen, the end, and 4 bits of SSID.
-fn put_spelled(c: &[u8], l: usize, out: &mut [u8], at: usize) -> Put
+fn put_spelled(c: &[u8], l: usize, out: &mut [u8], at: usize) -> Option<usize>
     requires { (length c.now ≤ 16) × (at < 2 ^ 60) }
     ensures { Puts (unpack out.old) at (spelled_bits l c.now) (unpack out.new) result }
 {
     let k = hyphen(c);
-    let Put::Next(p) = put_letters(&c[0..k], true, out, at) else {
-        return Put::Bad;
-    };
+    let p = put_letters(&c[0..k], true, out, at)?;
     let q = put_end(out, p, k, l);
-    Put::Next(push(out, q, ssid(c, k), 4))
+    Some(push(out, q, ssid(c, k), 4))
 }
 
 // c starts with w.
@@ -236,19 +216,19 @@ fn put_pair(c: &[u8], i: u64, k: usize, w: usize, out: &mut [u8], at: usize) -> 
 }
 
 // A call that starts with AP and has no hyphen: a row of NUMBERED, or the AP form.
-fn put_plain(c: &[u8], l: usize, out: &mut [u8], at: usize) -> Put
+fn put_plain(c: &[u8], l: usize, out: &mut [u8], at: usize) -> Option<usize>
     requires { (plain_ap c.now ≡ true) × (length c.now ≤ 16) × (at < 2 ^ 60) }
     ensures { Puts (unpack out.old) at (or_else (numbered_bits numbered_rows c.now) (ap_bits l c.now)) (unpack out.new) result }
 {
-    let Counted::Count(i, v, w) = numbered_of(c) else {
+    let Some((i, v, w)) = numbered_of(c) else {
         return put_ap(c, l, out, at);
     };
     let p = push(out, at, i, 6);
-    Put::Next(push(out, p, v, w))
+    Some(push(out, p, v, w))
 }
 
 // A call without a whole name: a row of NUMBERED, the AP form, or spelled.
-fn put_unnamed(c: &[u8], l: usize, out: &mut [u8], at: usize) -> Put
+fn put_unnamed(c: &[u8], l: usize, out: &mut [u8], at: usize) -> Option<usize>
     requires { (length c.now ≤ 16) × (at < 2 ^ 60) }
     ensures { Puts (unpack out.old) at (unnamed_bits l c.now) (unpack out.new) result }
 {
@@ -259,29 +239,29 @@ fn put_unnamed(c: &[u8], l: usize, out: &mut [u8], at: usize) -> Put
 }
 
 // A call that no row of PAIRS takes.
-fn put_unpaired(c: &[u8], l: usize, out: &mut [u8], at: usize) -> Put
+fn put_unpaired(c: &[u8], l: usize, out: &mut [u8], at: usize) -> Option<usize>
     requires { (length c.now ≤ 16) × (at < 2 ^ 60) }
     ensures { Puts (unpack out.old) at (unpaired_bits l c.now) (unpack out.new) result }
 {
-    let Code::Is(i) = fixed_of(c) else {
+    let Some(i) = fixed_of(c) else {
         return put_unnamed(c, l, out, at);
     };
-    Put::Next(push(out, at, i, 6))
+    Some(push(out, at, i, 6))
 }
 
 // The bits of a call at a position, for calls of l letters. What lies past the end of out is not written.
-pub fn token_encode(c: &[u8], l: usize, out: &mut [u8], at: usize) -> Put
+pub fn token_encode(c: &[u8], l: usize, out: &mut [u8], at: usize) -> Option<usize>
     requires { (length c.now ≤ 16) × (at < 2 ^ 60) }
     ensures { Puts (unpack out.old) at (token_bits l c.now) (unpack out.new) result }
 {
-    let Row::Paired(i, k, w) = pair_of(c) else {
+    let Some((i, k, w)) = pair_of(c) else {
         return put_unpaired(c, l, out, at);
     };
-    Put::Next(put_pair(c, i, k, w, out, at))
+    Some(put_pair(c, i, k, w, out, at))
 }
 
 // The same of a call that is held.
-pub fn put_call(c: Call, l: usize, out: &mut [u8], at: usize) -> Put
+pub fn put_call(c: Call, l: usize, out: &mut [u8], at: usize) -> Option<usize>
     requires { (c.len ≤ 16) × (at < 2 ^ 60) }
     ensures { Puts (unpack out.old) at (token_bits l (text_of c)) (unpack out.new) result }
 {

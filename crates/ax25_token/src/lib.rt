@@ -8,11 +8,10 @@ ghost use Rattle.std.specs.Prelude.{◌≡◌, ◌+◌, ◌-◌, ◌^◌, ◌≤
 ghost use Rattle.laws.specs.Bits.{unpack};
 ghost use Rattle.laws.specs.Text.{ascii};
 ghost use Rattle.bits.specs.Read.{took, after_of};
-ghost use Rattle.ax25_token.specs.Call.{empty, pushed, appended, call_of, texts, behind_call, form_name, took_wide};
+ghost use Rattle.ax25_token.specs.Call.{empty, pushed, appended, call_of, UpTo, texts, behind_call, form_name, took_wide};
 ghost use Rattle.ax25_token.specs.Tables.{call_alphabet};
 ghost use Rattle.ax25_token.specs.Token.{two_digits, suffix, form_of, read_letters, read_spelled, read_pair, read_number, read_form, read_token};
 
-use bits::read::Taken;
 use bits::reader::{Two, bit_take_at, bit_text_at, take_at};
 
 // A call: its text is the first len bytes.
@@ -20,20 +19,6 @@ use bits::reader::{Two, bit_take_at, bit_text_at, take_at};
 pub struct Call {
     pub bytes: [u8; 16],
     pub len: usize,
-}
-
-// The next position, or no token.
-#[derive(Clone, Copy)]
-pub enum Token {
-    Next(usize),
-    Nothing,
-}
-
-// A call beside the token that says whether there is one, and where the next bits are.
-#[derive(Clone, Copy)]
-pub struct Decoded {
-    pub token: Token,
-    pub call: Call,
 }
 
 // CALL_ALPHABET of the source.
@@ -60,19 +45,6 @@ const NAMES: [[u8; 16]; 15] = [
 
 const LENGTHS: [usize; 15] = [4, 3, 2, 2, 2, 3, 2, 4, 4, 4, 6, 6, 6, 6, 6];
 
-// No token, beside the empty call.
-fn nothing() -> Decoded
-    ensures { (result.token ≡ Token.Nothing) × (result.call ≡ empty) }
-{
-    Decoded {
-        token: Token::Nothing,
-        call: Call {
-            bytes: [32u8; 16],
-            len: 0,
-        },
-    }
-}
-
 // The call with a byte more.
 pub fn push(c: Call, b: u8) -> Call
     requires { c.len < 16 }
@@ -94,24 +66,19 @@ fn letter(alphabet: &[u8; 37], v: u64) -> u8
 }
 
 // At most n letters, up to a blank, behind what the call holds. A code that is no letter ends a strict reading; another skips it.
-fn letters(s: &[u8], at: usize, n: usize, strict: bool, c: Call) -> Decoded
+fn letters(s: &[u8], at: usize, n: usize, strict: bool, c: Call) -> Option<(Call, usize)>
     requires { (length s.now < 2 ^ 60) × (c.len + n ≤ 16) }
-    ensures { (call_of (unpack s.now) result ≡ behind_call c (read_letters strict n (drop at (unpack s.now)))) × (result.call.len ≤ c.len + n) }
+    ensures { (call_of (unpack s.now) result ≡ behind_call c (read_letters strict n (drop at (unpack s.now)))) × UpTo (c.len + n) result }
 {
     let alphabet = &CALL_ALPHABET;
     let mut bytes = c.bytes;
     let mut len = c.len;
     let mut p = at;
-    let mut left = n;
-    while 0 < left {
-        let Taken::Bits(v, q) = take_at(s, p, 6) else {
-            return nothing();
-        };
+    for _ in 0..n {
+        let (v, q) = take_at(s, p, 6)?;
         p = q;
-        left -= 1;
         if v == 0 {
-            left = 0;
-            continue;
+            return Some((Call { bytes, len }, p));
         }
         if v < 37 {
             bytes[len] = letter(alphabet, v);
@@ -119,13 +86,10 @@ fn letters(s: &[u8], at: usize, n: usize, strict: bool, c: Call) -> Decoded
             continue;
         }
         if strict {
-            return nothing();
+            return None;
         }
     }
-    Decoded {
-        token: Token::Next(p),
-        call: Call { bytes, len },
-    }
+    Some((Call { bytes, len }, p))
 }
 
 // The call with two digits.
@@ -166,23 +130,13 @@ pub fn suffixed(c: Call, v: u64) -> Call
 }
 
 // At most n letters and the SSID.
-fn spelled(s: &[u8], at: usize, n: usize, c: Call) -> Decoded
+fn spelled(s: &[u8], at: usize, n: usize, c: Call) -> Option<(Call, usize)>
     requires { (length s.now < 2 ^ 60) × (c.len + n ≤ 13) }
-    ensures { (call_of (unpack s.now) result ≡ behind_call c (read_spelled n (drop at (unpack s.now)))) × (result.call.len ≤ c.len + (n + 3)) }
+    ensures { (call_of (unpack s.now) result ≡ behind_call c (read_spelled n (drop at (unpack s.now)))) × UpTo (c.len + (n + 3)) result }
 {
-    let t = letters(s, at, n, false, c);
-    let token = t.token;
-    let Token::Next(p) = token else {
-        return nothing();
-    };
-    let Taken::Bits(v, q) = take_at(s, p, 4) else {
-        return nothing();
-    };
-    let d = t.call;
-    Decoded {
-        token: Token::Next(q),
-        call: suffixed(d, v),
-    }
+    let (d, p) = letters(s, at, n, false, c)?;
+    let (v, q) = take_at(s, p, 4)?;
+    Some((suffixed(d, v), q))
 }
 
 // The bit of a digit and the number after it, whose w bits are decimal digits in the original reading and a binary number in the mended one.
@@ -197,38 +151,24 @@ fn pair_at(s: &[u8], at: usize, w: usize, mended: bool) -> Two
 }
 
 // A digit, 1 or 2, and a number of w bits.
-fn pair(s: &[u8], at: usize, w: usize, c: Call, mended: bool) -> Decoded
+fn pair(s: &[u8], at: usize, w: usize, c: Call, mended: bool) -> Option<(Call, usize)>
     requires { (length s.now < 2 ^ 60) × (c.len ≤ 12) × (w ≤ 2) }
-    ensures { (call_of (unpack s.now) result ≡ behind_call c (read_pair mended w (drop at (unpack s.now)))) × (result.call.len ≤ c.len + 4) }
+    ensures { (call_of (unpack s.now) result ≡ behind_call c (read_pair mended w (drop at (unpack s.now)))) × UpTo (c.len + 4) result }
 {
     let two = pair_at(s, at, w, mended);
-    let digit = two.first;
-    let Taken::Bits(d, _) = digit else {
-        return nothing();
-    };
-    let number = two.second;
-    let Taken::Bits(v, q) = number else {
-        return nothing();
-    };
+    let (d, _) = two.first?;
+    let (v, q) = two.second?;
     let e = push(c, (49 + d) as u8);
-    Decoded {
-        token: Token::Next(q),
-        call: suffixed(e, v),
-    }
+    Some((suffixed(e, v), q))
 }
 
 // A number of w bits, counted from low.
-fn number(s: &[u8], at: usize, low: u64, w: usize, c: Call) -> Decoded
+fn number(s: &[u8], at: usize, low: u64, w: usize, c: Call) -> Option<(Call, usize)>
     requires { (length s.now < 2 ^ 60) × (c.len ≤ 14) × (w ≤ 5) × (low < 64) }
-    ensures { (call_of (unpack s.now) result ≡ behind_call c (read_number low w (drop at (unpack s.now)))) × (result.call.len ≤ c.len + 2) }
+    ensures { (call_of (unpack s.now) result ≡ behind_call c (read_number low w (drop at (unpack s.now)))) × UpTo (c.len + 2) result }
 {
-    let Taken::Bits(v, q) = take_at(s, at, w) else {
-        return nothing();
-    };
-    Decoded {
-        token: Token::Next(q),
-        call: two_digits(c, v + low),
-    }
+    let (v, q) = take_at(s, at, w)?;
+    Some((two_digits(c, v + low), q))
 }
 
 // The name of an index from 37 to 51.
@@ -244,9 +184,9 @@ fn name(i: u64) -> Call
 }
 
 // The token of an index from 37 to 51.
-fn named(s: &[u8], at: usize, i: u64, mended: bool) -> Decoded
+fn named(s: &[u8], at: usize, i: u64, mended: bool) -> Option<(Call, usize)>
     requires { (length s.now < 2 ^ 60) × (37 ≤ i) × (i ≤ 51) }
-    ensures { ((l : ℕ) → call_of (unpack s.now) result ≡ behind_call empty (read_form mended l (form_of i) (drop at (unpack s.now)))) × (result.call.len ≤ 10) }
+    ensures { ((l : ℕ) → call_of (unpack s.now) result ≡ behind_call empty (read_form mended l (form_of i) (drop at (unpack s.now)))) × UpTo 10 result }
 {
     let c = name(i);
     match i {
@@ -255,10 +195,7 @@ fn named(s: &[u8], at: usize, i: u64, mended: bool) -> Decoded
         44 => number(s, at, 20, 4, c),
         45 => number(s, at, 11, 3, c),
         46 => number(s, at, 16, 5, c),
-        _ => Decoded {
-            token: Token::Next(at),
-            call: c,
-        },
+        _ => Some((c, at)),
     }
 }
 
@@ -285,17 +222,15 @@ fn begun() -> Call
 }
 
 // The token at a position of the bits, for calls of l letters, in the original reading or the mended one.
-pub fn token_decode(s: &[u8], at: usize, l: usize, mended: bool) -> Decoded
+pub fn token_decode(s: &[u8], at: usize, l: usize, mended: bool) -> Option<(Call, usize)>
     requires { (length s.now < 2 ^ 60) × (2 ≤ l) × (l ≤ 7) }
-    ensures { (texts (call_of (unpack s.now) result) ≡ read_token mended l (drop at (unpack s.now))) × (result.call.len ≤ 10) }
+    ensures { (texts (call_of (unpack s.now) result) ≡ read_token mended l (drop at (unpack s.now))) × UpTo 10 result }
 {
-    let Taken::Bits(i, p) = take_at(s, at, 6) else {
-        return nothing();
-    };
+    let (i, p) = take_at(s, at, 6)?;
     match i {
         0..=36 => spelled(s, p, l - 1, first(i)),
         37..=51 => named(s, p, i, mended),
         52 => letters(s, p, l - 2, true, begun()),
-        _ => nothing(),
+        _ => None,
     }
 }

@@ -8,21 +8,7 @@ ghost use Rattle.ax25_token.specs.Put.{SmallRow, SmallCount, row_bits, coded_bit
 ghost use Rattle.ax25_token.specs.Tables.{wide_tokens, wide_row, pair_rows, pair_texts, fixed_rows, numbered_rows};
 ghost use Rattle.ax25_token.specs.Token.{hyphened, pair_bits, pairs_bits, fixed_bits, numbered_bits};
 
-use crate::encode::{Code, number_at, one_of, same, starts};
-
-// A row of PAIRS: its index, the length of its name, and the bits of its number.
-#[derive(Clone, Copy)]
-pub enum Row {
-    Paired(u64, usize, usize),
-    Unpaired,
-}
-
-// A row of NUMBERED: its index, the number from the row's lowest on, and the bits of the number.
-#[derive(Clone, Copy)]
-pub enum Counted {
-    Count(u64, u64, usize),
-    Uncounted,
-}
+use crate::encode::{number_at, one_of, same, starts};
 
 // What stands behind WIDE in WIDE_TOKENS.
 fn wide_end(t: &[u8]) -> bool
@@ -55,59 +41,59 @@ fn is_pair(c: &[u8], n: &[u8]) -> bool
 }
 
 // The row of PAIRS that takes the call.
-pub(crate) fn pair_of(c: &[u8]) -> Row
+pub(crate) fn pair_of(c: &[u8]) -> Option<(u64, usize, usize)>
     ensures c_value { row_bits result c.now ≡ pick (is_one_of c.now wide_tokens) (Some (pair_bits wide_row c.now)) (pairs_bits pair_rows c.now) }
     ensures small_row { SmallRow result }
 {
     if is_wide(c) {
-        return Row::Paired(37, 4, 2);
+        return Some((37, 4, 2));
     }
     if is_pair(c, b"PNW") {
-        return Row::Paired(38, 3, 1);
+        return Some((38, 3, 1));
     }
     if is_pair(c, b"MW") {
-        return Row::Paired(39, 2, 1);
+        return Some((39, 2, 1));
     }
     if is_pair(c, b"OR") {
-        return Row::Paired(40, 2, 1);
+        return Some((40, 2, 1));
     }
     if is_pair(c, b"WA") {
-        return Row::Paired(41, 2, 1);
+        return Some((41, 2, 1));
     }
-    Row::Unpaired
+    None
 }
 
 // The index of a name of FIXED that starts with AP.
-fn fixed_ap(c: &[u8]) -> Code
+fn fixed_ap(c: &[u8]) -> Option<u64>
     ensures { coded_bits result ≡ fixed_bits (drop 2 fixed_rows) c.now }
 {
     if same(c, b"APBPQ1") {
-        return Code::Is(47);
+        return Some(47);
     }
     if same(c, b"APJYC1") {
-        return Code::Is(48);
+        return Some(48);
     }
     if same(c, b"APOPYT") {
-        return Code::Is(49);
+        return Some(49);
     }
     if same(c, b"APU25N") {
-        return Code::Is(50);
+        return Some(50);
     }
     if same(c, b"APVARA") {
-        return Code::Is(51);
+        return Some(51);
     }
-    Code::Nothing
+    None
 }
 
 // The index of a name of FIXED.
-pub(crate) fn fixed_of(c: &[u8]) -> Code
+pub(crate) fn fixed_of(c: &[u8]) -> Option<u64>
     ensures { coded_bits result ≡ fixed_bits fixed_rows c.now }
 {
     if same(c, b"ALL") {
-        return Code::Is(42);
+        return Some(42);
     }
     if same(c, b"CQ") {
-        return Code::Is(43);
+        return Some(43);
     }
     fixed_ap(c)
 }
@@ -126,22 +112,22 @@ fn in_range(c: &[u8], n: &[u8], low: u64, high: u64, v: u64) -> bool
 }
 
 // The row of NUMBERED that takes a call without a hyphen.
-pub(crate) fn numbered_of(c: &[u8]) -> Counted
+pub(crate) fn numbered_of(c: &[u8]) -> Option<(u64, u64, usize)>
     requires { hyphened c.now ≡ false }
     ensures result_value { counted_bits result ≡ numbered_bits numbered_rows c.now }
     ensures small_count { SmallCount result }
 {
     let v = number_at(c, 4, 2);
     if in_range(c, b"APIN", 20, 36, v) {
-        return Counted::Count(44, v - 20, 4);
+        return Some((44, v - 20, 4));
     }
     if in_range(c, b"APWW", 11, 19, v) {
-        return Counted::Count(45, v - 11, 3);
+        return Some((45, v - 11, 3));
     }
     if in_range(c, b"APDR", 16, 48, v) {
-        return Counted::Count(46, v - 16, 5);
+        return Some((46, v - 16, 5));
     }
-    Counted::Uncounted
+    None
 }
 
 // 1 for a 2 at k, else 0.

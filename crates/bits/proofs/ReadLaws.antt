@@ -20,7 +20,6 @@ use Rattle.laws.proofs.DigitLaws.{number_lt}
 use Rattle.laws.proofs.ListLaws.{drop_stored}
 use Rattle.bits.specs.Read.{take_bits, take_text, letter, taken}
 use Rattle.bits.specs.Val.{val_of}
-use Rattle.bits.specs.declared.read.Taken.TheVariants.{Bits, Short}
 use Rattle.bits.proofs.ValLaws.{val_number}
 
 -- ---- taking bits
@@ -90,19 +89,19 @@ module _ (s : List ℕ) (at n : ℕ) where
   abbrev rest : List Bool
   rest = drop at (unpack s)
 
-  pub taken_short : length s * 8 - at < n → taken (at + n) (take_bits n (drop at (unpack s))) ≡ Short
+  pub taken_short : length s * 8 - at < n → taken (at + n) (take_bits n (drop at (unpack s))) ≡ None
   unfolding taken
   taken_short h = rw (take_no n rest (omega (arith, length-drop at (unpack s), length_unpack s)))
 
-  pub taken_bits : n ≤ length s * 8 - at → taken (at + n) (take_bits n (drop at (unpack s))) ≡ Bits (value_of (take n (drop at (unpack s)))) (at + n)
+  pub taken_bits : n ≤ length s * 8 - at → taken (at + n) (take_bits n (drop at (unpack s))) ≡ Some (value_of (take n (drop at (unpack s))), at + n)
   unfolding taken
   taken_bits h = rw (take_yes n rest (omega (arith, length-drop at (unpack s), length_unpack s)))
 
-  pub text_short : length s * 8 - at < n → taken (at + n) (take_text n (drop at (unpack s))) ≡ Short
+  pub text_short : length s * 8 - at < n → taken (at + n) (take_text n (drop at (unpack s))) ≡ None
   unfolding taken
   text_short h = rw (text_no n rest (omega (arith, length-drop at (unpack s), length_unpack s)))
 
   pub text_bits_lem : n ≤ 19 → n ≤ length s * 8 - at
-      → taken (at + n) (take_text n (drop at (unpack s))) ≡ Bits (number_of (map letter (take n (drop at (unpack s))))) (at + n)
+      → taken (at + n) (take_text n (drop at (unpack s))) ≡ Some (number_of (map letter (take n (drop at (unpack s)))), at + n)
   unfolding taken
   text_bits_lem l h = rw (text_yes n rest (omega (arith, length-drop at (unpack s), length_unpack s)), letters_val n rest l)

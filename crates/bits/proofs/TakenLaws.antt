@@ -17,25 +17,23 @@ use Rattle.laws.proofs.BitLaws.{value_take_lt}
 use Rattle.laws.proofs.Cases.{by_le}
 use Rattle.bits.specs.Read.{take_bits, take_text, letter, taken, after_of}
 use Rattle.bits.specs.Val.{val_of}
-use Rattle.bits.specs.declared.read.Taken.{Taken}
-use Rattle.bits.specs.declared.read.Taken.TheVariants.{Bits, Short}
 use Rattle.bits.proofs.ReadLaws.{letters_are, take_yes, take_no}
 use Rattle.bits.proofs.ValLaws.{val_lt}
 
 -- the number, and the bits from the next position on
-view : List Bool → Taken → Option (ℕ × List Bool)
-view b (Bits v q) = Some (v, drop q b)
-view b Short = None
+view : List Bool → Option (ℕ × ℕ) → Option (ℕ × List Bool)
+view b (Some (v, q)) = Some (v, drop q b)
+view b None = None
 
 -- the next position, counted from 1
-next : Taken → ℕ
-next (Bits v q) = suc q
-next Short = 0
+next : Option (ℕ × ℕ) → ℕ
+next (Some (v, q)) = suc q
+next None = 0
 
 -- a reading after one that found its bits starts at the next position
-pub next_at : (R : ℕ → Taken) (t u : Taken) (at v q : ℕ) → t ≡ Bits v q → u ≡ R (after_of t at) → u ≡ R q
+pub next_at : (R : ℕ → Option (ℕ × ℕ)) (t u : Option (ℕ × ℕ)) (at v q : ℕ) → t ≡ Some (v, q) → u ≡ R (after_of t at) → u ≡ R q
 unfolding after_of
-next_at R t u at v q e h = h ∙ ap (λ (x : Taken). R (after_of x at)) e
+next_at R t u at v q e h = h ∙ ap (λ (x : Option (ℕ × ℕ)). R (after_of x at)) e
 
 -- n bits from a position on are read as w
 abbrev Reads : List Bool → ℕ → ℕ → ℕ → Bool → Option (ℕ × List Bool)
@@ -54,11 +52,11 @@ read_is b n w false v r e = absurd (none-some (v, r) e)
 
 module _ (b : List Bool) (at n : ℕ) where
   -- bits as a number
-  pub told_short : taken (at + n) (take_bits n (drop at b)) ≡ Short → take_bits n (drop at b) ≡ None
+  pub told_short : taken (at + n) (take_bits n (drop at b)) ≡ None → take_bits n (drop at b) ≡ None
   unfolding view take_bits
   told_short e = is_view b at n (value_of (take n (drop at b))) (leb n (length (drop at b))) ∙ ap (view b) e
 
-  module _ (v q : ℕ) (e : taken (at + n) (take_bits n (drop at b)) ≡ Bits v q) where
+  module _ (v q : ℕ) (e : taken (at + n) (take_bits n (drop at b)) ≡ Some (v, q)) where
     pub told_bits : take_bits n (drop at b) ≡ Some (v, drop q b)
     unfolding view take_bits
     told_bits = is_view b at n (value_of (take n (drop at b))) (leb n (length (drop at b))) ∙ ap (view b) e
@@ -85,11 +83,11 @@ module _ (b : List Bool) (at n : ℕ) where
         rw (← m) (lt_of_lt_of_le (value_take_lt (drop at b) n) le)
 
   -- bits as decimal digits
-  pub told_text_short : taken (at + n) (take_text n (drop at b)) ≡ Short → take_text n (drop at b) ≡ None
+  pub told_text_short : taken (at + n) (take_text n (drop at b)) ≡ None → take_text n (drop at b) ≡ None
   unfolding view take_text
   told_text_short e = is_view b at n (val_of (map letter (take n (drop at b)))) (leb n (length (drop at b))) ∙ ap (view b) e
 
-  module _ (v q : ℕ) (e : taken (at + n) (take_text n (drop at b)) ≡ Bits v q) where
+  module _ (v q : ℕ) (e : taken (at + n) (take_text n (drop at b)) ≡ Some (v, q)) where
     pub told_text : take_text n (drop at b) ≡ Some (v, drop q b)
     unfolding view take_text
     told_text = is_view b at n (val_of (map letter (take n (drop at b)))) (leb n (length (drop at b))) ∙ ap (view b) e

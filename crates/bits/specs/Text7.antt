@@ -6,8 +6,6 @@ use Rattle.std.proofs.lemmas.List.Edits.{sets}
 use Rattle.laws.specs.Bits.{num}
 use Rattle.bits_write.specs.Text7.{last_or}
 use Rattle.bits.specs.Read.{numbers}
-use Rattle.bits.specs.declared.read.Got.{Got}
-use Rattle.bits.specs.declared.read.Got.TheVariants.{Next, Nothing}
 
 unfoldable pub differ : Bool → Bool → Bool
 differ true b = not b
@@ -29,9 +27,9 @@ text7_of [] at = None
 text7_of (x ∷ xs) at = Some (numbers 7 ((end_of (last_or x xs) (x ∷ xs) - at) / 7) (drop at (x ∷ xs)))
 
 -- the answer, with the next place of an output that is written from `to` on, and the output then
-unfoldable pub text7_next : ℕ → Option (List ℕ) → Got
-text7_next to None = Nothing
-text7_next to (Some t) = Next (to + length t)
+unfoldable pub text7_next : ℕ → Option (List ℕ) → Option ℕ
+text7_next to None = None
+text7_next to (Some t) = Some (to + length t)
 
 unfoldable pub text7_left : List ℕ → ℕ → Option (List ℕ) → List ℕ
 text7_left out to None = out

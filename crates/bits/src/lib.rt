@@ -12,24 +12,14 @@ fn saturating(a: u64, d: u64) -> u64
     requires { d < 256 }
     ensures { result ≡ min (a * 10 + d) 0xffff_ffff_ffff_ffff }
 {
-    if (0xffff_ffff_ffff_ffff - d) / 10 < a {
-        0xffff_ffff_ffff_ffff
-    } else {
-        a * 10 + d
-    }
+    a.saturating_mul(10).saturating_add(d)
 }
 
 // Neither a blank nor a digit.
 fn is_stop(c: u8) -> bool
     ensures { result ≡ stops c }
 {
-    if c == b' ' {
-        return false;
-    }
-    if c < b'0' {
-        return true;
-    }
-    b'9' < c
+    c != b' ' && !c.is_ascii_digit()
 }
 
 // The number with one byte more.
@@ -49,15 +39,12 @@ fn next_val(a: u64, c: u8) -> u64
 pub fn vb_val(s: &[u8]) -> u64
     ensures { result ≡ val_of s.now }
 {
-    let mut a: u64 = 0;
-    let mut i = 0;
-    while i < s.len() {
-        let c = s[i];
+    let mut a = 0;
+    for &c in s {
         if is_stop(c) {
             return a;
         }
         a = next_val(a, c);
-        i += 1;
     }
     a
 }

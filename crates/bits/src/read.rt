@@ -10,27 +10,13 @@ ghost use Rattle.bits.specs.Text7.{end_of, text7_of, text7_next, text7_left};
 use bits_write::words::{one, power, wide, word};
 use bits_write::{byte, least, put_bytes};
 
-// A number and the next position, or too few bits.
-#[derive(Clone, Copy)]
-pub enum Taken {
-    Bits(u64, usize),
-    Short,
-}
-
-// The next place after a text that was read, or no bits at all.
-#[derive(Clone, Copy)]
-pub enum Got {
-    Next(usize),
-    Nothing,
-}
-
 // The position after what was read from a position on: the same where there were too few bits.
-pub(crate) fn after(t: Taken, at: usize) -> usize
+pub(crate) fn after(t: Option<(u64, usize)>, at: usize) -> usize
     ensures { result ≡ after_of t at }
 {
     match t {
-        Taken::Bits(_, p) => p,
-        Taken::Short => at,
+        Some((_, p)) => p,
+        None => at,
     }
 }
 
@@ -39,8 +25,7 @@ pub(crate) fn remaining(s: &[u8], at: usize) -> usize
     requires { length s.now < 2 ^ 60 }
     ensures { result ≡ length s.now * 8 - at }
 {
-    let all = s.len() * 8;
-    if at < all { all - at } else { 0 }
+    (s.len() * 8).saturating_sub(at)
 }
 
 // The bit at a position.
@@ -76,11 +61,9 @@ fn value_each(s: &[u8], at: usize, n: usize) -> u64
     requires { (n ≤ 64) × (at + n ≤ length s.now * 8) × (length s.now < 2 ^ 60) }
     ensures { result ≡ value_of (take n (drop at (unpack s.now))) }
 {
-    let mut v: u64 = 0;
-    let mut i = 0;
-    while i < n {
+    let mut v = 0;
+    for i in 0..n {
         v = v * 2 + get_bit(s, at + i);
-        i += 1;
     }
     v
 }
@@ -106,17 +89,17 @@ fn value(s: &[u8], at: usize, n: usize) -> u64
 }
 
 // The next n bits, as a number.
-pub(crate) fn take(s: &[u8], at: usize, n: usize) -> Taken
+pub(crate) fn take(s: &[u8], at: usize, n: usize) -> Option<(u64, usize)>
     requires { (n ≤ 64) × (length s.now < 2 ^ 60) }
     ensures { result ≡ took n (unpack s.now) at }
 {
     if remaining(s, at) < n {
-        return Taken::Short;
+        return None;
     }
     if n == 0 {
-        return Taken::Bits(0, at);
+        return Some((0, at));
     }
-    Taken::Bits(value(s, at, n), at + n)
+    Some((value(s, at, n), at + n))
 }
 
 // The n bits from a position on, as decimal digits.
@@ -124,27 +107,25 @@ fn digits(s: &[u8], at: usize, n: usize) -> u64
     requires { (n ≤ 16) × (at + n ≤ length s.now * 8) × (length s.now < 2 ^ 60) }
     ensures { result ≡ number_of (map letter (take n (drop at (unpack s.now)))) }
 {
-    let mut v: u64 = 0;
-    let mut i = 0;
-    while i < n {
+    let mut v = 0;
+    for i in 0..n {
         v = v * 10 + get_bit(s, at + i);
-        i += 1;
     }
     v
 }
 
 // The next n bits as text of 0 and 1, and the number that `vb_val` reads there.
-pub(crate) fn text(s: &[u8], at: usize, n: usize) -> Taken
+pub(crate) fn text(s: &[u8], at: usize, n: usize) -> Option<(u64, usize)>
     requires { (n ≤ 16) × (length s.now < 2 ^ 60) }
     ensures { result ≡ took_text n (unpack s.now) at }
 {
     if remaining(s, at) < n {
-        return Taken::Short;
+        return None;
     }
     if n == 0 {
-        return Taken::Bits(0, at);
+        return Some((0, at));
     }
-    Taken::Bits(digits(s, at, n), at + n)
+    Some((digits(s, at, n), at + n))
 }
 
 // How many bits there are up to the last that differs from the pad.
@@ -152,12 +133,10 @@ fn end_of(s: &[u8], pad: u64) -> usize
     requires { (pad < 2) × (length s.now < 2 ^ 60) }
     ensures { result ≡ end_of (odd pad) (unpack s.now) }
 {
-    let mut e = s.len() * 8;
-    while 0 < e {
-        if get_bit(s, e - 1) != pad {
-            return e;
+    for i in (0..s.len() * 8).rev() {
+        if get_bit(s, i) != pad {
+            return i + 1;
         }
-        e -= 1;
     }
     0
 }
@@ -166,7 +145,7 @@ fn end_of(s: &[u8], pad: u64) -> usize
 fn count(at: usize, end: usize) -> usize
     ensures { result ≡ (end - at) / 7 }
 {
-    if at < end { (end - at) / 7 } else { 0 }
+    end.saturating_sub(at) / 7
 }
 
 // The 56 bits from a position on, where eight bytes are left.
@@ -189,12 +168,8 @@ fn put_eight(out: &mut [u8], to: usize, v: u64)
     requires { to + 8 ≤ length out.old }
     ensures { Wrote out.old to (numbers 7 8 (bits_of 56 v)) out.new (to + 8) }
 {
-    let mut k = to;
-    let mut left: usize = 8;
-    while 0 < left {
-        left -= 1;
-        out[k] = low(v >> (left * 7));
-        k += 1;
+    for k in 0..8 {
+        out[to + k] = low(v >> ((7 - k) * 7));
     }
 }
 
@@ -205,16 +180,14 @@ fn blocks(s: &[u8], at: usize, n: usize, out: &mut [u8], to: usize) -> usize
     ensures wrote { Wrote out.old to (numbers 7 result (drop at (unpack s.now))) out.new (to + result) }
 {
     let most = least(n, out.len() - to);
-    let mut i = 0;
-    while 8 <= most - i {
-        let p = at + i * 7;
+    for k in 0..most / 8 {
+        let p = at + k * 56;
         if s.len() < p / 8 + 8 {
-            return i;
+            return k * 8;
         }
-        put_eight(out, to + i, block(s, p));
-        i += 8;
+        put_eight(out, to + k * 8, block(s, p));
     }
-    i
+    most / 8 * 8
 }
 
 // n numbers of w bits, one by one, written from a place of the output on. The next place.
@@ -222,15 +195,10 @@ fn each(s: &[u8], at: usize, w: usize, n: usize, out: &mut [u8], to: usize) -> u
     requires { (0 < w) × (w ≤ 8) × (n * w ≤ length s.now * 8 - at) × (length s.now < 2 ^ 60) × (to + n < 2 ^ 62) }
     ensures { Wrote out.old to (numbers w n (drop at (unpack s.now))) out.new result }
 {
-    let mut next = to;
-    let mut pos = at;
-    let mut i = 0;
-    while i < n {
-        next = byte(out, next, value(s, pos, w) as u8);
-        pos += w;
-        i += 1;
+    for i in 0..n {
+        byte(out, to + i, value(s, at + i * w, w) as u8);
     }
-    next
+    to + n
 }
 
 // n numbers of seven bits, written from a place of the output on. The next place.
@@ -246,17 +214,17 @@ pub fn sevens(s: &[u8], at: usize, n: usize, out: &mut [u8], to: usize) -> usize
 }
 
 // The text from a position on, without the pad, written from a place of the output on.
-pub(crate) fn text7(s: &[u8], at: usize, out: &mut [u8], to: usize) -> Got
+pub(crate) fn text7(s: &[u8], at: usize, out: &mut [u8], to: usize) -> Option<usize>
     requires { (length s.now < 2 ^ 60) × (to < 2 ^ 61) }
     ensures { (result ≡ text7_next to (text7_of (unpack s.now) at))
         × (out.new ≡ text7_left out.old to (text7_of (unpack s.now) at)) }
 {
     if s.len() == 0 {
-        return Got::Nothing;
+        return None;
     }
     let pad = get_bit(s, s.len() * 8 - 1);
     let end = end_of(s, pad);
-    Got::Next(sevens(s, at, count(at, end), out, to))
+    Some(sevens(s, at, count(at, end), out, to))
 }
 
 // The 64 bits from a position on, where nine bytes are left.
@@ -277,12 +245,11 @@ fn words(s: &[u8], at: usize, n: usize, out: &mut [u8], to: usize) -> usize
 {
     // eight bytes from a position on lie in nine
     let most = least(n, out.len() - to);
-    let mut i = 0;
-    while 9 <= most - i {
-        put_bytes(out, to + i, eight(s, at + i * 8), 8);
-        i += 8;
+    let n = most.saturating_sub(1) / 8;
+    for k in 0..n {
+        put_bytes(out, to + k * 8, eight(s, at + k * 64), 8);
     }
-    i
+    n * 8
 }
 
 // The whole bytes from a position on, written from a place of the output on. The next place.

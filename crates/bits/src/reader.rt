@@ -7,7 +7,6 @@ ghost use Rattle.bits.specs.Read.{took, took_text, after_of, moved};
 ghost use Rattle.bits.specs.Text7.{text7_of, text7_next, text7_left};
 
 use crate::read;
-use crate::read::{Got, Taken};
 
 #[derive(Clone, Copy)]
 pub struct Reader<'a> {
@@ -18,8 +17,8 @@ pub struct Reader<'a> {
 // Two answers in turn: the second from where the first left the reader.
 #[derive(Clone, Copy)]
 pub struct Two {
-    pub first: Taken,
-    pub second: Taken,
+    pub first: Option<(u64, usize)>,
+    pub second: Option<(u64, usize)>,
 }
 
 impl<'a> Reader<'a> {
@@ -39,7 +38,7 @@ impl<'a> Reader<'a> {
     }
 
     // The next bit, 0 or 1.
-    pub fn bit(&mut self) -> Taken
+    pub fn bit(&mut self) -> Option<(u64, usize)>
         requires { length self.old.bytes.now < 2 ^ 60 }
         ensures { (result ≡ took 1 (unpack self.old.bytes.now) self.old.at)
             × (self.new ≡ moved self.old result) }
@@ -48,7 +47,7 @@ impl<'a> Reader<'a> {
     }
 
     // The next n bits, as a number.
-    pub fn take(&mut self, n: usize) -> Taken
+    pub fn take(&mut self, n: usize) -> Option<(u64, usize)>
         requires { (n ≤ 64) × (length self.old.bytes.now < 2 ^ 60) }
         ensures { (result ≡ took n (unpack self.old.bytes.now) self.old.at)
             × (self.new ≡ moved self.old result) }
@@ -60,7 +59,7 @@ impl<'a> Reader<'a> {
     }
 
     // The next n bits as text of 0 and 1, and the number that `vb_val` reads there.
-    pub fn text(&mut self, n: usize) -> Taken
+    pub fn text(&mut self, n: usize) -> Option<(u64, usize)>
         requires { (n ≤ 16) × (length self.old.bytes.now < 2 ^ 60) }
         ensures { (result ≡ took_text n (unpack self.old.bytes.now) self.old.at)
             × (self.new ≡ moved self.old result) }
@@ -72,7 +71,7 @@ impl<'a> Reader<'a> {
     }
 
     // The text from the position on, without the pad, written from a place of the output on.
-    pub fn text7(self, out: &mut [u8], to: usize) -> Got
+    pub fn text7(self, out: &mut [u8], to: usize) -> Option<usize>
         requires { (length self.bytes.now < 2 ^ 60) × (to < 2 ^ 61) }
         ensures { (result ≡ text7_next to (text7_of (unpack self.entry.bytes.now) self.entry.at))
             × (out.new ≡ text7_left out.old to (text7_of (unpack self.entry.bytes.now) self.entry.at)) }
@@ -106,7 +105,7 @@ pub fn remaining_at(s: &[u8], at: usize) -> usize
 }
 
 // The n bits from a position on, as a number.
-pub fn take_at(s: &[u8], at: usize, n: usize) -> Taken
+pub fn take_at(s: &[u8], at: usize, n: usize) -> Option<(u64, usize)>
     requires { (n ≤ 64) × (length s.now < 2 ^ 60) }
     ensures { result ≡ took n (unpack s.now) at }
 {
@@ -115,7 +114,7 @@ pub fn take_at(s: &[u8], at: usize, n: usize) -> Taken
 }
 
 // The n bits from a position on as text of 0 and 1, and the number that `vb_val` reads there.
-pub fn text_at(s: &[u8], at: usize, n: usize) -> Taken
+pub fn text_at(s: &[u8], at: usize, n: usize) -> Option<(u64, usize)>
     requires { (n ≤ 16) × (length s.now < 2 ^ 60) }
     ensures { result ≡ took_text n (unpack s.now) at }
 {
@@ -146,7 +145,7 @@ pub fn bit_text_at(s: &[u8], at: usize, n: usize) -> Two
 }
 
 // The text from a position on, without the pad, written from a place of the output on.
-pub fn text7_at(s: &[u8], at: usize, out: &mut [u8], to: usize) -> Got
+pub fn text7_at(s: &[u8], at: usize, out: &mut [u8], to: usize) -> Option<usize>
     requires { (length s.now < 2 ^ 60) × (to < 2 ^ 61) }
     ensures { (result ≡ text7_next to (text7_of (unpack s.now) at))
         × (out.new ≡ text7_left out.old to (text7_of (unpack s.now) at)) }

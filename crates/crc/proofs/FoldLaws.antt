@@ -9,7 +9,7 @@ use native.Mathlib.Numerals.{add-one}
 use native.Mathlib.Omega.{arith}
 use lib.Arith.{bin_ind}
 use lib.Bits.{bit_xor, xor_comm, xor_self, xor_lt, xor_zero_l, xor_zero_r, xor_shifted}
-use lib.ListN.{length, get_or, take, drop, set, replicate, get_or-replicate, length-append, length-take, length-drop, length-set, drop_of_length-le, get_or-append}
+use lib.ListN.{length, get_or, take, drop, take-append-drop, set, replicate, get_or-replicate, length-append, length-take, length-drop, length-set, drop_of_length-le, get_or-append}
 use lib.Seq.{take_all, take-append-le, take-suc, drop-cons, drop-set-lt, take-suc-set, get_or-take, get_or-drop, get_or-append-add, length-take-le}
 use Rattle.laws.specs.Bits.{Bytes}
 use Rattle.laws.specs.Pick.{pick}
@@ -17,7 +17,7 @@ use Rattle.laws.proofs.ByteLaws.{bytes_set}
 use Rattle.laws.proofs.Cases.{by_le}
 use Rattle.crc.specs.Crc.{start, crc_bit, crc_steps, crc_byte, crc_from}
 use Rattle.crc.specs.Fold.{Window, held}
-use Rattle.crc.proofs.LinearLaws.{xor_assoc, xor_cross, xor_high, step_low, step_xor, steps_lt, steps_xor, steps_add, from_append, from_one, Through}
+use Rattle.crc.proofs.LinearLaws.{xor_assoc, xor_cross, xor_high, step_low, step_xor, steps_lt, steps_xor, steps_add, from_append, from_more, from_one, eights_of, eights_all}
 
 -- ---- 1024 steps
 
@@ -268,6 +268,13 @@ module _ (l : List ℕ) (i : ℕ) (w₀ : List ℕ) (j₀ : ℕ) (w : List ℕ) 
             ∙ sym (from_one c j (drop i l) (omega (arith, length-drop i l))),
       )
 
+-- the same where the list is the 128 bytes alone
+pub ring_block : (l w₀ w : List ℕ) (j : ℕ) → Ring l 0 w₀ 0 w j → j < 128 → (k n : ℕ) → k ≡ (j + 40) % 128 → n ≡ (j + 96) % 128 → length l ≡ 128 → get_or l j 0 < 256
+    → Ring l 0 w₀ 0 (set w j (bit_xor (bit_xor (bit_xor (get_or l j 0) (get_or w j 0)) (get_or w k 0)) (get_or w n 0))) (j + 1)
+ring_block l w₀ w j ring inside k n ek en all hd =
+    let e : 0 + j ≡ j = omega arith in
+    rw e at (ring_on l 0 w₀ 0 w j ring inside k n ek en (omega arith) (rw e hd))
+
 -- the window that stands for no bytes but the start
 pub window_first : Window (set (set (replicate 128 0) 0 255) 1 255) × (held (set (set (replicate 128 0) 0 255) 1 255) ≡ start)
 unfolding held crc_from crc_byte crc_steps crc_bit pick
@@ -277,12 +284,19 @@ window_first = (
 )
 
 -- three numbers on one way through the window
-pub window_parts : (w : List ℕ) (a b d i j k : ℕ) → length w ≡ 128
-    → Through 0 w 40 i a → 40 ≤ i → Through 0 w 96 j b → 96 ≤ j → Through 0 w 128 k d → 128 ≤ k → bit_xor (bit_xor a b) d ≡ held w
+pub window_parts : (w : List ℕ) (a b d : ℕ) → length w ≡ 128 → a ≡ eights_of 0 (take 40 w) → b ≡ eights_of a (take 56 (drop 40 w)) → d ≡ eights_of b (drop 96 w) → bit_xor (bit_xor a b) d ≡ held w
 unfolding held
-window_parts w a b d i j k full ta hi tb hj td hk =
-    let ei : i ≡ 40 = omega arith in
-    let ej : j ≡ 96 = omega arith in
-    ap₂ bit_xor
-    (ap₂ bit_xor (ta.2 ∙ ap (λ (n : ℕ). crc_from 0 (take n w)) ei) (tb.2 ∙ ap (λ (n : ℕ). crc_from 0 (take n w)) ej))
-    (td.2 ∙ ap (crc_from 0) (take_all k w (omega arith)))
+window_parts w a b d full ea eb ed =
+    let p : a ≡ crc_from 0 (take 40 w) = ea ∙ eights_all 0 5 (take 40 w) (omega (arith, length-take 40 w)) in
+    let q : b ≡ crc_from 0 (take 96 w) =
+    eb
+    ∙ eights_all a 7 (take 56 (drop 40 w)) (omega (arith, length-take 56 (drop 40 w), length-drop 40 w))
+    ∙ ap (λ (x : ℕ). crc_from x (take 56 (drop 40 w))) p
+    ∙ sym (from_more 0 40 56 w) in
+    let r : d ≡ crc_from 0 w =
+    ed
+    ∙ eights_all b 4 (drop 96 w) (omega (arith, length-drop 96 w))
+    ∙ ap (λ (x : ℕ). crc_from x (drop 96 w)) q
+    ∙ sym (from_append 0 (take 96 w) (drop 96 w))
+    ∙ ap (crc_from 0) (take-append-drop 96 w) in
+    ap₂ bit_xor (ap₂ bit_xor p q) r

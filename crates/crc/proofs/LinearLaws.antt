@@ -8,9 +8,9 @@ use native.Mathlib.Numerals.{add-one}
 use native.Mathlib.Omega.{arith}
 use lib.Arith.{bin_ind}
 use lib.Bits.{bit_xor, xor_comm, xor_self, xor_lt, xor_block, xor_shifted, xor_shr, xor_mod}
-use lib.ListN.{length, get_or, take, drop}
+use lib.ListN.{length, get_or, take, drop, length-append, drop_of_length-le}
 use lib.Pow.{pow_mono}
-use lib.Seq.{drop-cons, take-add, take-suc}
+use lib.Seq.{drop-cons, take-add, take-suc, take_all, take-append-add}
 use borrow.Author.Tests.{le-leb, lt-leb}
 use Rattle.laws.specs.Pick.{pick}
 use Rattle.laws.proofs.Cases.{by_le}
@@ -267,15 +267,16 @@ fours c a b d e f g h i hc k1 k2 k3 k4 =
     )
     (first_last (pair_of 6 x y) (pair_of 4 d e) (pair_of 2 f g) (pair_of 0 h i))
 
--- eight bytes of a list
-pub eight : (l : List ℕ) (i : ℕ) → i + 8 ≤ length l
-    → take 8 (drop i l) ≡ get_or l i 0 ∷ get_or l (i + 1) 0 ∷ get_or l (i + 2) 0 ∷ get_or l (i + 2 + 1) 0 ∷ get_or l (i + 4) 0 ∷ get_or l (i + 4 + 1) 0 ∷ get_or l (i + 6) 0 ∷ get_or l (i + 6 + 1) 0 ∷ []
-eight l i h =
-    next 7 (i) (i + 1) (omega arith) (omega arith) (next 6 (i + 1) (i + 2) (omega arith) (omega arith) (next 5 (i + 2) (i + 2 + 1) (omega arith) (omega arith) (next 4 (i + 2 + 1) (i + 4) (omega arith) (omega arith) (next 3 (i + 4) (i + 4 + 1) (omega arith) (omega arith) (next 2 (i + 4 + 1) (i + 6) (omega arith) (omega arith) (next 1 (i + 6) (i + 6 + 1) (omega arith) (omega arith) (next 0 (i + 6 + 1) (i + 8) (omega arith) (omega arith) refl)))))))
+-- eight bytes, one by one
+pub eight : (l : List ℕ) → length l ≡ 8
+    → l ≡ get_or l 0 0 ∷ get_or l 1 0 ∷ get_or l 2 0 ∷ get_or l 3 0 ∷ get_or l 4 0 ∷ get_or l 5 0 ∷ get_or l 6 0 ∷ get_or l 7 0 ∷ []
+eight l h =
+    let all : length l ≤ 8 = omega arith in
+    let none : drop 8 l ≡ [] = drop_of_length-le l all in
+    next 0 (omega arith) (next 1 (omega arith) (next 2 (omega arith) (next 3 (omega arith) (next 4 (omega arith) (next 5 (omega arith) (next 6 (omega arith) (next 7 (omega arith) none)))))))
   where
-    next : (n k j : ℕ) → suc k ≡ j → k < length l → {r : List ℕ} → take n (drop j l) ≡ r → take (suc n) (drop k l) ≡ get_or l k 0 ∷ r
-    next n k j q lt e =
-        ap (take (suc n)) (drop-cons l k 0 lt) ∙ ap (λ (t : List ℕ). get_or l k 0 ∷ t) (ap (λ (x : ℕ). take n (drop x l)) q ∙ e)
+    next : (k : ℕ) → k < length l → {r : List ℕ} → drop (suc k) l ≡ r → drop k l ≡ get_or l k 0 ∷ r
+    next k lt e = drop-cons l k 0 lt ∙ ap (λ (t : List ℕ). get_or l k 0 ∷ t) e
 
 -- ---- bytes one after another
 
@@ -292,9 +293,36 @@ pub from_one : (c i : ℕ) (l : List ℕ) → i < length l → crc_from c (take 
 unfolding crc_from
 from_one c i l h = rw (add-one, take-suc l i 0 h) (from_append c (take i l) (get_or l i 0 ∷ []))
 
--- x is what the first i of n bytes come to behind c, eight at a time
-abbrev pub Through : ℕ → List ℕ → ℕ → ℕ → ℕ → Type 0
-Through c l n i x = (i ≤ n) × (i % 8 ≡ 0) × (x ≡ crc_from c (take i l))
+-- n bytes x, and then the first j of those that follow
+from_group : (c n k j : ℕ) (l x r : List ℕ) → l ≡ x ++ r → length x ≡ n → k ≡ n + j → crc_from c (take k l) ≡ crc_from (crc_from c x) (take j r)
+from_group c n k j l x r e h q =
+    ap₂ (λ (m : ℕ) (s : List ℕ). crc_from c (take m s)) (q ∙ ap (λ (m : ℕ). m + j) (sym h)) e
+    ∙ ap (crc_from c) (take-append-add x r j)
+    ∙ from_append c x (take j r)
 
-pub through_on : (c : ℕ) (l : List ℕ) (n i x y : ℕ) → Through c l n i x → i + 8 ≤ n → y ≡ crc_from x (take 8 (drop i l)) → Through c l n (i + 8) y
-through_on c l n i x y t h e = (h, omega arith, e ∙ ap (λ (z : ℕ). crc_from z (take 8 (drop i l))) t.2 ∙ sym (from_more c i 8 l))
+-- what the whole groups of eight bytes in l come to after c
+abbrev pub eights_of : ℕ → List ℕ → ℕ
+eights_of c l = crc_from c (take (length l / 8 * 8) l)
+
+-- the first of them, and then the others
+pub eights_on : (c : ℕ) (l x r : List ℕ) → l ≡ x ++ r → length x ≡ 8 → eights_of c l ≡ eights_of (crc_from c x) r
+eights_on c l x r e h = from_group c 8 (length l / 8 * 8) (length r / 8 * 8) l x r e h (omega (arith, ap length e, length-append x r))
+
+pub eights_end : (c : ℕ) (l : List ℕ) → length l < 8 → eights_of c l ≡ c
+unfolding crc_from
+eights_end c l h = let e : length l / 8 * 8 ≡ 0 = omega arith in ap (λ (n : ℕ). crc_from c (take n l)) e
+
+-- k groups are all of them
+pub eights_all : (c k : ℕ) (l : List ℕ) → length l ≡ k * 8 → eights_of c l ≡ crc_from c l
+eights_all c k l h = ap (crc_from c) (take_all (length l / 8 * 8) l (omega arith))
+
+-- the same of 128 bytes
+abbrev pub blocks_of : ℕ → List ℕ → ℕ
+blocks_of c l = crc_from c (take (length l / 128 * 128) l)
+
+pub blocks_on : (c : ℕ) (l x r : List ℕ) → l ≡ x ++ r → length x ≡ 128 → blocks_of c l ≡ blocks_of (crc_from c x) r
+blocks_on c l x r e h = from_group c 128 (length l / 128 * 128) (length r / 128 * 128) l x r e h (omega (arith, ap length e, length-append x r))
+
+pub blocks_end : (c : ℕ) (l : List ℕ) → length l < 128 → blocks_of c l ≡ c
+unfolding crc_from
+blocks_end c l h = let e : length l / 128 * 128 ≡ 0 = omega arith in ap (λ (n : ℕ). crc_from c (take n l)) e

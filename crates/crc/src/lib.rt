@@ -11,13 +11,6 @@ ghost use Rattle.crc.specs.Fold.{Window, held};
 
 use crate::table::{ROWS, entry};
 
-// A byte of data as an index.
-fn wide(x: u8) -> usize
-    ensures { (result ≡ x) × (result < 256) }
-{
-    x as usize
-}
-
 // One step of the division.
 fn crc_bit(c: u16) -> u16
     ensures { result ≡ crc_bit c }
@@ -33,70 +26,43 @@ fn crc_bit(c: u16) -> u16
 fn crc_byte(c: u16, b: u8) -> u16
     ensures { result ≡ crc_byte c b }
 {
-    let mut x = c ^ ((b as u16) * 256);
-    let mut i: usize = 0;
-    while i < 8 {
+    let mut x = c ^ (u16::from(b) * 256);
+    for _ in 0..8u8 {
         x = crc_bit(x);
-        i += 1;
     }
     x
 }
 
-// Two bytes at a place, with k bytes of zeros behind them.
-fn crc_pair(table: &[u16; 256], k: usize, data: &[u8], i: usize) -> u16
-    requires { (table.now ≡ rows) × (k < 7) × (i + 2 ≤ length «data».now) }
-    ensures value { result ≡ pair_of k (get_or «data».now i 0) (get_or «data».now (i + 1) 0) }
-    ensures i_bound { (get_or «data».now i 0 < 256) × (get_or «data».now (i + 1) 0 < 256) }
+// Two bytes, with k bytes of zeros after them. They are indices here: with bytes the compiler takes longer over the two that are joined with c.
+fn crc_pair(table: &[u16; 256], k: usize, a: usize, b: usize) -> u16
+    requires { (table.now ≡ rows) × (k < 7) × (a < 256) × (b < 256) }
+    ensures { result ≡ pair_of k a b }
 {
-    entry(table, k + 1, wide(data[i])) ^ entry(table, k, wide(data[i + 1]))
+    entry(table, k + 1, a) ^ entry(table, k, b)
 }
 
-// Two bytes at a place, joined with what came before them, with six bytes of zeros behind.
-fn crc_first(table: &[u16; 256], c: u16, data: &[u8], i: usize) -> u16
-    requires { (table.now ≡ rows) × (i + 2 ≤ length «data».now) }
-    ensures value { result ≡ pair_of 6 (bit_xor (c / 256) (get_or «data».now i 0)) (bit_xor (c % 256) (get_or «data».now (i + 1) 0)) }
-    ensures i_bound { (get_or «data».now i 0 < 256) × (get_or «data».now (i + 1) 0 < 256) }
+// Eight bytes more. Those that do not wait for c come first; the first two are joined with c.
+fn crc_eight(table: &[u16; 256], c: u16, eight: &[u8]) -> u16
+    requires { (table.now ≡ rows) × (length eight.now ≡ 8) }
+    ensures { result ≡ crc_from c eight.now }
 {
-    let high = c as usize / 256;
-    let low = c as usize % 256;
-    entry(table, 7, high ^ wide(data[i])) ^ entry(table, 6, low ^ wide(data[i + 1]))
+    let six = crc_pair(table, 4, usize::from(eight[2]), usize::from(eight[3]))
+        ^ crc_pair(table, 2, usize::from(eight[4]), usize::from(eight[5]))
+        ^ crc_pair(table, 0, usize::from(eight[6]), usize::from(eight[7]));
+    let high = usize::from(c) / 256 ^ usize::from(eight[0]);
+    let low = usize::from(c) % 256 ^ usize::from(eight[1]);
+    six ^ crc_pair(table, 6, high, low)
 }
 
-// Eight bytes more, from a place on. Those that do not wait for c come first.
-fn crc_eight(table: &[u16; 256], c: u16, data: &[u8], i: usize) -> u16
-    requires { (table.now ≡ rows) × (i + 8 ≤ length «data».now) }
-    ensures { result ≡ crc_from c (take 8 (drop i «data».now)) }
-{
-    let six = crc_pair(table, 4, data, i + 2)
-        ^ crc_pair(table, 2, data, i + 4)
-        ^ crc_pair(table, 0, data, i + 6);
-    six ^ crc_first(table, c, data, i)
-}
-
-// All whole groups of eight bytes.
-fn crc_eights(data: &[u8]) -> u16
-    ensures { result ≡ crc_from start (take (length «data».now / 8 * 8) «data».now) }
-{
-    let table = &ROWS;
-    let mut c: u16 = 0xFFFF;
-    let mut i: usize = 0;
-    while 8 <= data.len() - i {
-        c = crc_eight(table, c, data, i);
-        i += 8;
-    }
-    c
-}
-
-// The same behind what came before them. With one loop for both the compiler would not put it in place.
+// All whole groups of eight bytes, after what came before them. It is put in place at each call: a call costs short inputs more than their groups do.
+#[inline(always)]
 fn crc_rest(table: &[u16; 256], before: u16, data: &[u8]) -> u16
     requires { table.now ≡ rows }
     ensures { result ≡ crc_from before (take (length «data».now / 8 * 8) «data».now) }
 {
     let mut c = before;
-    let mut i: usize = 0;
-    while 8 <= data.len() - i {
-        c = crc_eight(table, c, data, i);
-        i += 8;
+    for eight in data.chunks_exact(8) {
+        c = crc_eight(table, c, eight);
     }
     c
 }
@@ -106,43 +72,26 @@ fn crc_window(table: &[u16; 256], w: &[u8]) -> u16
     requires { (table.now ≡ rows) × (length w.now ≡ 128) }
     ensures { result ≡ held w.now }
 {
-    let mut first: u16 = 0;
-    let mut i: usize = 0;
-    while i < 40 {
-        first = crc_eight(table, first, w, i);
-        i += 8;
-    }
-    let mut second = first;
-    while i < 96 {
-        second = crc_eight(table, second, w, i);
-        i += 8;
-    }
-    let mut third = second;
-    while i < 128 {
-        third = crc_eight(table, third, w, i);
-        i += 8;
-    }
+    let first = crc_rest(table, 0, &w[..40]);
+    let second = crc_rest(table, first, &w[40..96]);
+    let third = crc_rest(table, second, &w[96..]);
     first ^ second ^ third
 }
 
-// 128 bytes more: each takes the place of the oldest, and is joined with those 128, 88 and 32 before it. The compiler makes each loop one of 16 bytes.
-fn fold(old: [u8; 128], data: &[u8], i: usize) -> [u8; 128]
-    requires { (i + 128 ≤ length «data».now) × Window old }
-    ensures { (held result ≡ crc_from (held old) (take 128 (drop i «data».now))) × Window result }
+// 128 bytes more: each takes the place of the oldest, and is joined with those 128, 88 and 32 before it. There are three loops, each with its own places, since the compiler makes each one of 16 bytes.
+fn fold(old: [u8; 128], block: &[u8]) -> [u8; 128]
+    requires { (length block.now ≡ 128) × Window old }
+    ensures { (held result ≡ crc_from (held old) block.now) × Window result }
 {
     let mut w = old;
-    let mut j: usize = 0;
-    while j < 32 {
-        w[j] = data[i + j] ^ w[j] ^ w[j + 40] ^ w[j + 96];
-        j += 1;
+    for j in 0..32 {
+        w[j] = block[j] ^ w[j] ^ w[j + 40] ^ w[j + 96];
     }
-    while j < 88 {
-        w[j] = data[i + j] ^ w[j] ^ w[j + 40] ^ w[j - 32];
-        j += 1;
+    for j in 32..88 {
+        w[j] = block[j] ^ w[j] ^ w[j + 40] ^ w[j - 32];
     }
-    while j < 128 {
-        w[j] = data[i + j] ^ w[j] ^ w[j - 88] ^ w[j - 32];
-        j += 1;
+    for j in 88..128 {
+        w[j] = block[j] ^ w[j] ^ w[j - 88] ^ w[j - 32];
     }
     w
 }
@@ -155,15 +104,14 @@ fn crc_folded(table: &[u16; 256], data: &[u8]) -> u16
     let mut w = [0u8; 128];
     w[0] = 255;
     w[1] = 255;
-    let mut i: usize = 0;
-    while 128 <= data.len() - i {
-        w = fold(w, data, i);
-        i += 128;
+    for block in data.chunks_exact(128) {
+        w = fold(w, block);
     }
     crc_window(table, &w)
 }
 
-// All whole groups of eight bytes, by a window, which pays where they are many.
+// All whole groups of eight bytes, by a window, which pays where they are many. It is called: put in place it makes short inputs save registers that they do not use.
+#[inline(never)]
 fn crc_groups(table: &[u16; 256], data: &[u8]) -> u16
     requires { table.now ≡ rows }
     ensures { result ≡ crc_from start (take (length «data».now / 8 * 8) «data».now) }
@@ -172,24 +120,18 @@ fn crc_groups(table: &[u16; 256], data: &[u8]) -> u16
     crc_rest(table, c, &data[data.len() / 128 * 128..])
 }
 
-// The same with the table, which is stored to the stack where a function that names it begins.
-fn crc_tabled(data: &[u8]) -> u16
-    ensures { result ≡ crc_from start (take (length «data».now / 8 * 8) «data».now) }
-{
-    crc_groups(&ROWS, data)
-}
-
-// The same, where there may be none.
+// The same by the way that is faster for so many.
 fn crc_whole(data: &[u8]) -> u16
     ensures { result ≡ crc_from start (take (length «data».now / 8 * 8) «data».now) }
 {
+    let table = &ROWS;
     if data.len() < 8 {
-        return 0xFFFF;
+        0xFFFF
+    } else if data.len() < 256 {
+        crc_rest(table, 0xFFFF, data)
+    } else {
+        crc_groups(table, data)
     }
-    if data.len() < 256 {
-        return crc_eights(data);
-    }
-    crc_tabled(data)
 }
 
 // The CRC of any bytes.
@@ -197,10 +139,8 @@ pub fn crc16_genibus(data: &[u8]) -> u16
     ensures { result ≡ crc_of «data».now }
 {
     let mut c = crc_whole(data);
-    let mut i = data.len() / 8 * 8;
-    while i < data.len() {
+    for i in data.len() / 8 * 8..data.len() {
         c = crc_byte(c, data[i]);
-        i += 1;
     }
     c ^ 0xFFFF
 }

@@ -29,7 +29,7 @@ pub(crate) const ROWS: [u16; 256] = [
     0x0B51, 0x36E5, 0x7039, 0x4D8D,
 ];
 
-// A byte with k bytes of zeros behind it. The table is lent: each use of the constant would copy it.
+// A byte with k bytes of zeros after it. The table is lent: each use of the constant would copy it.
 pub(crate) fn entry(table: &[u16; 256], k: usize, b: usize) -> u16
     requires { (table.now ≡ rows) × (k < 8) × (b < 256) }
     ensures { result ≡ crc_steps ((k + 1) * 8) (b * 256) }

@@ -91,12 +91,11 @@ fn bad(listener: Listener) -> Turn {
 // Reads the bytes of a step and makes it.
 fn read(listener: Listener, space: &mut [u8], lent: &mut [u8], what: &[u8], answer: &[u8]) -> Turn {
     let mut data = io::large_buffer();
-    let bytes = hex(piece(what, 1, b':'), &mut data);
-    if !bytes.good {
+    let Some(n) = hex(piece(what, 1, b':'), &mut data) else {
         return bad(listener);
-    }
+    };
     let kind = piece(what, 0, b':');
-    make(listener, space, lent, kind, &data[0..bytes.n], answer)
+    make(listener, space, lent, kind, &data[..n], answer)
 }
 
 // Makes a step: n has a mask, k, r and x have a name.

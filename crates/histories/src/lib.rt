@@ -69,7 +69,7 @@ fn calls(line: &[u8], mut receiver: Reassembler) -> Outcome {
 
 // One call: r is a reset, p:FIELD:HEX=ANSWER a push, j:N:HEX=ANSWER a join.
 fn call(receiver: Reassembler, space: &mut [u8], text: &[u8]) -> Step {
-    if check::same(text, b"r") {
+    if text == b"r".as_slice() {
         return Step {
             outcome: Outcome::Equal,
             receiver: receiver.reset(),
@@ -84,18 +84,12 @@ fn call(receiver: Reassembler, space: &mut [u8], text: &[u8]) -> Step {
 // Reads a push or a join and makes it.
 fn hear(receiver: Reassembler, space: &mut [u8], what: &[u8], answer: &[u8]) -> Step {
     let mut data = io::large_buffer();
-    let call = call_of(what, &mut data);
-    if !call.good {
+    let Some(call) = call_of(what, &mut data) else {
         return bad(receiver);
-    }
-    take_in(
-        receiver,
-        space,
-        piece(what, 0, b':'),
-        &data[0..call.size],
-        call.n as usize,
-        answer,
-    )
+    };
+    let kind = piece(what, 0, b':');
+    let data = &data[..call.size];
+    take_in(receiver, space, kind, data, call.n as usize, answer)
 }
 
 // Makes a push or a join.

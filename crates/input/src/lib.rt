@@ -1,13 +1,24 @@
 // Standard input, line by line, the numbers of the command line, and what is written of a line.
 #![tactic(auto)]
 
-ghost use Rattle.std.specs.Prelude.{◌≡◌, ◌+◌, ◌^◌, ◌<◌, ◌≤◌, length};
+ghost use Rattle.std.specs.Prelude.{◌≡◌, ◌+◌, ◌^◌, ◌<◌, ◌≤◌, length, IfSome};
 
 use bits_write::copy;
 use std::env::{Env, FillError};
 use std::io::Read;
-use texts::number::{Number, decimal};
-use texts::part::{find, front};
+use texts::number::decimal;
+use texts::part::find;
+
+// How far reading has come.
+#[derive(Clone, Copy, Debug, PartialEq, Eq)]
+pub enum Reached {
+    // the line goes on
+    Middle,
+    // the line's end was seen
+    LineEnd,
+    // the input has ended
+    InputEnd,
+}
 
 // Where reading stands.
 #[derive(Clone, Copy)]
@@ -19,24 +30,14 @@ pub struct Stand {
     pub len: usize,
     // the line's number, counted from 1
     pub number: u64,
-    // the line's end was seen
-    pub whole: bool,
-    // the input has ended
-    pub ended: bool,
+    pub reached: Reached,
 }
 
-// The numbers of the command line.
-#[derive(Clone, Copy)]
-pub enum Arguments {
-    Two(u64, u64),
-    Other,
-}
-
-// Room for a line. The contract gives only the length, so that no caller's proof unfolds the array.
-pub fn room() -> [u8; 16384]
-    ensures { 16384 ≡ length result }
-{
-    [0; 16384]
+impl Stand {
+    // The input has ended, and no line is left of it.
+    pub fn is_over(&self) -> bool {
+        self.reached == Reached::InputEnd && self.len == 0
+    }
 }
 
 // Nothing is read yet.
@@ -48,8 +49,7 @@ pub fn start() -> Stand
         to: 0,
         len: 0,
         number: 0,
-        whole: false,
-        ended: false,
+        reached: Reached::Middle,
     }
 }
 
@@ -58,34 +58,21 @@ fn filled<R: Read>(reader: &mut R, s: Stand, chunk: &mut [u8]) -> Stand
     requires { s.to ≤ length chunk.old }
     ensures { (result.from ≤ result.to) × (result.to ≤ length chunk.new) × (result.len ≡ s.len) }
 {
-    let from = s.from;
-    let to = s.to;
-    if from < to {
+    if s.from < s.to {
         return s;
     }
-    let n = match reader.read(chunk) {
-        Ok(n) => n,
-        Err(_) => 0,
+    let to = reader.read(chunk).unwrap_or(0);
+    let reached = if to == 0 {
+        Reached::InputEnd
+    } else {
+        Reached::Middle
     };
     Stand {
         from: 0,
-        to: n,
-        len: s.len,
-        number: s.number,
-        whole: false,
-        ended: n == 0,
+        to,
+        reached,
+        ..s
     }
-}
-
-// The lesser of n and one more than the room.
-fn clipped(n: usize, room: usize) -> usize
-    requires { room < 2 ^ 60 }
-    ensures { result ≤ room + 1 }
-{
-    if room < n {
-        return room + 1;
-    }
-    n
 }
 
 // Takes what was read up to the line's end.
@@ -93,28 +80,23 @@ fn taken(s: Stand, chunk: &[u8], line: &mut [u8]) -> Stand
     requires { (s.from ≤ s.to) × (s.to ≤ length chunk.now) × (s.len ≤ length line.old + 1) × (length chunk.now < 2 ^ 60) × (length line.old < 2 ^ 60) }
     ensures { (result.to ≡ s.to) × (result.len ≤ length line.new + 1) }
 {
-    let from = s.from;
-    let to = s.to;
-    let end = find(&chunk[0..to], from, b'\n');
-    let n = copy(line, s.len, &chunk[from..end]);
-    let len = clipped(n, line.len());
-    if end < to {
-        return Stand {
+    let end = find(&chunk[..s.to], s.from, b'\n');
+    let n = copy(line, s.len, &chunk[s.from..end]);
+    let len = n.min(line.len() + 1);
+    if end < s.to {
+        Stand {
             from: end + 1,
-            to,
             len,
-            number: s.number,
-            whole: true,
-            ended: false,
-        };
-    }
-    Stand {
-        from: to,
-        to,
-        len,
-        number: s.number,
-        whole: false,
-        ended: false,
+            reached: Reached::LineEnd,
+            ..s
+        }
+    } else {
+        Stand {
+            from: end,
+            len,
+            reached: Reached::Middle,
+            ..s
+        }
     }
 }
 
@@ -124,7 +106,7 @@ fn step<R: Read>(reader: &mut R, s: Stand, chunk: &mut [u8], line: &mut [u8]) ->
     ensures { (result.to ≤ length chunk.new) × (result.len ≤ length line.new + 1) }
 {
     let f = filled(reader, s, chunk);
-    if f.ended {
+    if f.reached == Reached::InputEnd {
         return f;
     }
     taken(f, chunk, line)
@@ -136,23 +118,18 @@ pub fn next<R: Read>(reader: &mut R, s: Stand, chunk: &mut [u8], line: &mut [u8]
     ensures { (result.to ≤ length chunk.new) × (result.len ≤ length line.new + 1) }
 {
     let mut stand = Stand {
-        from: s.from,
-        to: s.to,
         len: 0,
-        number: std::num::wrapping_add_u64(s.number, 1),
-        whole: false,
-        ended: s.ended,
+        number: s.number.wrapping_add(1),
+        ..s
     };
-    let mut turns = u64::MAX;
-    while 0 < turns {
-        if stand.whole {
-            return stand;
-        }
-        if stand.ended {
-            return stand;
-        }
+    if s.reached == Reached::InputEnd {
+        return stand;
+    }
+    for _ in 0..u64::MAX {
         stand = step(reader, stand, chunk, line);
-        turns -= 1;
+        if stand.reached != Reached::Middle {
+            return stand;
+        }
     }
     stand
 }
@@ -161,43 +138,31 @@ pub fn next<R: Read>(reader: &mut R, s: Stand, chunk: &mut [u8], line: &mut [u8]
 pub fn must_wait(s: Stand, chunk: &[u8]) -> bool
     requires { s.to ≤ length chunk.now }
 {
-    let from = s.from;
-    let to = s.to;
-    if to <= from {
-        return true;
-    }
-    find(&chunk[0..to], from, b'\n') == to
+    s.to <= s.from || find(&chunk[..s.to], s.from, b'\n') == s.to
 }
 
 // How many bytes word i of the command line has, put at the start of `text`: none where there is no such word or no room for it.
 fn word_at<E: Env>(env: &E, i: usize, text: &mut [u8]) -> usize
     ensures { result ≤ length text.new }
 {
-    match env.arg(i, text) {
-        Ok(n) => n,
-        Err(_) => 0,
-    }
+    env.arg(i, text).unwrap_or(0)
 }
 
 // The command line has a word i, counted from 0, which is the program's own name.
 fn has_place<E: Env>(env: &E, i: usize) -> bool {
     let mut text = io::buffer();
-    match env.arg(i, &mut text) {
-        Ok(_) => true,
-        Err(FillError::TooLong) => true,
-        Err(FillError::NotPresent) => false,
-    }
+    !matches!(env.arg(i, &mut text), Err(FillError::NotPresent))
 }
 
 // Word i of the command line is this one; the program's own name is word 0.
 fn is_word<E: Env>(env: &E, i: usize, word: &[u8]) -> bool {
     let mut text = io::buffer();
     let n = word_at(env, i, &mut text);
-    check::same(&text[..n], word)
+    &text[..n] == word
 }
 
 // A number of the command line.
-fn number_at<E: Env>(env: &E, i: usize) -> Number {
+fn number_at<E: Env>(env: &E, i: usize) -> Option<u64> {
     let mut text = io::buffer();
     let n = word_at(env, i, &mut text);
     decimal(&text[..n])
@@ -205,23 +170,7 @@ fn number_at<E: Env>(env: &E, i: usize) -> Number {
 
 // The command line has this word after its two numbers, first or second.
 pub fn has_word<E: Env>(env: &E, word: &[u8]) -> bool {
-    is_word(env, 3, word) | is_word(env, 4, word)
-}
-
-// How many words the command line has: the program's name and two numbers, and one more for each of these that is so.
-fn words(first: bool, second: bool) -> usize
-    ensures { (3 ≤ result) × (result ≤ 5) }
-{
-    if first {
-        if second {
-            return 5;
-        }
-        return 4;
-    }
-    if second {
-        return 4;
-    }
-    3
+    is_word(env, 3, word) || is_word(env, 4, word)
 }
 
 // The command line has so many words.
@@ -231,66 +180,43 @@ fn has_count<E: Env>(env: &E, count: usize) -> bool
     has_place(env, count - 1) && !has_place(env, count)
 }
 
-// The two numbers of the command line, with one word or two after them where these are so, and with nothing else.
-pub fn numbers<E: Env>(env: &E, first: bool, second: bool) -> Arguments {
-    if !has_count(env, words(first, second)) {
-        return Arguments::Other;
+// The two numbers of the command line, with one word or two after them where these are so, and with nothing else. Before them stands
+// the program's name.
+pub fn numbers<E: Env>(env: &E, first: bool, second: bool) -> Option<(u64, u64)> {
+    if !has_count(env, 3 + usize::from(first) + usize::from(second)) {
+        return None;
     }
-    let Number::Is(a) = number_at(env, 1) else {
-        return Arguments::Other;
-    };
-    let Number::Is(b) = number_at(env, 2) else {
-        return Arguments::Other;
-    };
-    Arguments::Two(a, b)
+    Some((number_at(env, 1)?, number_at(env, 2)?))
 }
 
 // A number as a mask. What is no byte is no mask, as 0 is none.
 pub fn mask_of(n: u64) -> u8 {
-    if 255 < n {
-        return 0;
-    }
-    n as u8
+    u8::try_from(n).unwrap_or(0)
 }
 
 // Writes the first n bytes, or an error line where there are fewer. Whether all of it could be written; where not, that is said on standard error.
 pub fn print(out: &[u8], n: usize) -> bool {
-    if out.len() < n {
-        return put(b"error: no room for the answer\n");
+    match out.get(..n) {
+        Some(text) => put(text),
+        None => put(b"error: no room for the answer\n"),
     }
-    put(front(out, n))
-}
-
-// Answers that are held in the output and not written yet: so many bytes. Where they could not be written, that is so.
-#[derive(Clone, Copy)]
-pub struct Held {
-    pub at: usize,
-    pub failed: bool,
 }
 
 // n bytes more are held after the first `at` of the output. All are written where the next line has to be waited for, and where fewer
-// than `least` bytes of room are left.
-pub fn hold(out: &[u8], at: usize, n: usize, wait: bool, least: usize) -> Held
+// than `least` bytes of room are left. How many bytes are held then and not written yet, or none where they could not be written.
+pub fn hold(out: &[u8], at: usize, n: usize, wait: bool, least: usize) -> Option<usize>
     requires { at ≤ length out.now }
-    ensures { result.at ≤ length out.now }
+    ensures { IfSome result (λ held. held ≤ length out.now) }
 {
     let room = out.len() - at;
     if room < n {
-        let failed = !print(out, at) || !put(b"error: no room for the answer\n");
-        return Held { at: 0, failed };
+        let written = print(out, at) && put(b"error: no room for the answer\n");
+        return written.then_some(0);
     }
-    if !wait {
-        if least <= room - n {
-            return Held {
-                at: at + n,
-                failed: false,
-            };
-        }
+    if !wait && least <= room - n {
+        return Some(at + n);
     }
-    Held {
-        at: 0,
-        failed: !print(out, at + n),
-    }
+    print(out, at + n).then_some(0)
 }
 
 // Writes to standard output. Where that fails, says so on standard error.

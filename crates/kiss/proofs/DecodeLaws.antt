@@ -14,8 +14,6 @@ use Rattle.laws.specs.Wrote.{Wrote}
 use Rattle.laws.proofs.Cases.{pick_true, pick_false, by_eq}
 use Rattle.laws.proofs.ListLaws.{from_place}
 use Rattle.refusals.specs.Outcome.{Outcome, refused, answer}
-use Rattle.bits.specs.declared.read.Got.{Got}
-use Rattle.bits.specs.declared.read.Got.TheVariants.{Nothing, Next}
 use Rattle.ax25_address.specs.Types.{Generic, call_len}
 use Rattle.ax25_aprs.specs.Put.{Reads}
 use Rattle.ax25.specs.Decode.{read_frame}
@@ -82,16 +80,16 @@ same_frame : (mended : Bool) (command l h : ℕ) (m : List ℕ) → l ≡ call_l
     → read_frame mended l h (unpack (take (length m - 1) (drop 1 m))) ≡ read_frame mended (call_len command) h (unpack (drop 1 m))
 same_frame mended command l h m e = rw (e, from_place m 1)
 
-not_both : {r : Got} {n : ℕ} → r ≡ Next n → r ≡ Nothing → ⊥
+not_both : {r : (Option ℕ)} {n : ℕ} → r ≡ Some n → r ≡ None → ⊥
 not_both e f = let z : ◌≡◌ {A = ℕ} 0 1 = cc in omega arith
 
 -- the first run reads o, writes it to s, which leaves x, and answers r
-module _ (command : ℕ) (out s x : List ℕ) (r : Got) where
-  none_read : (o : Option (List ℕ)) → Reads o s 0 x r → r ≡ Nothing → (refused 7, out) ≡ decode_into (or_seven command o) out
+module _ (command : ℕ) (out s x : List ℕ) (r : Option ℕ) where
+  none_read : (o : Option (List ℕ)) → Reads o s 0 x r → r ≡ None → (refused 7, out) ≡ decode_into (or_seven command o) out
   none_read None m e = tell_refused (λ d. d.bytes) (λ d. d.command) out {o = or_seven command None} 7 refl
   none_read (Some t) m e = absurd (not_both m.0 e)
 
-  module _ (n : ℕ) (e : r ≡ Next n) where
+  module _ (n : ℕ) (e : r ≡ Some n) where
     sized : (t : List ℕ) → Reads (Some t) s 0 x r → Wrote s 0 t x n
     sized t m = let k : n ≡ 0 + length t = cc in record { stored = m.1.stored; next_is = k }
 
@@ -100,20 +98,20 @@ module _ (command : ℕ) (out s x : List ℕ) (r : Got) where
     short_read (Some t) m h =
         first_short (λ d. d.bytes) (λ d. d.command) out (record { command = command; bytes = t }) {o = or_seven command (Some t)} refl (sized t m) h
 
-    whole_read : (o : Option (List ℕ)) → Reads o s 0 x r → n ≤ length out → (t : List ℕ) (v : Got) → Reads o out 0 t v
+    whole_read : (o : Option (List ℕ)) → Reads o s 0 x r → n ≤ length out → (t : List ℕ) (v : Option ℕ) → Reads o out 0 t v
         → (answer (n, command), t) ≡ decode_into (or_seven command o) out
     whole_read None m h t v w = absurd (not_both e m)
     whole_read (Some d) m h t v w =
         first_fits (λ d. d.bytes) (λ d. d.command) out (record { command = command; bytes = d }) {o = or_seven command (Some d)} refl (sized d m) h w.1
 
 -- where s has room for what is read, copying it is as good as a second run
-pub read_copied : (out s x : List ℕ) (r : Got) (n : ℕ) → r ≡ Next n → (o : Option (List ℕ)) → Reads o s 0 x r → n ≤ length s
+pub read_copied : (out s x : List ℕ) (r : Option ℕ) (n : ℕ) → r ≡ Some n → (o : Option (List ℕ)) → Reads o s 0 x r → n ≤ length s
     → (rest t : List ℕ) → t ≡ sets out 0 (take (n - 0) (x ++ rest)) → Reads o out 0 t r
 read_copied out s x r n e None m h rest t z = m
 read_copied out s x r n e (Some d) m h rest t z = let k : 0 + length d ≡ n = cc in (m.0, copied_out m.1 n k h out rest z)
 
 -- the same of a frame, which is read from the part after the header
-module _ (mended : Bool) (command l h : ℕ) (m : List ℕ) (p : l ≡ call_len command) (out s x : List ℕ) (r : Got) where
+module _ (mended : Bool) (command l h : ℕ) (m : List ℕ) (p : l ≡ call_len command) (out s x : List ℕ) (r : Option ℕ) where
   abbrev part : Option (List ℕ)
   part = read_frame mended l h (unpack (take (length m - 1) (drop 1 m)))
 
@@ -124,14 +122,14 @@ module _ (mended : Bool) (command l h : ℕ) (m : List ℕ) (p : l ≡ call_len 
   same_told = ap (λ (o : Option (List ℕ)). decode_into (or_seven command o) out) (same_frame mended command l h m p)
 
   module _ (w : Reads part s 0 x r) where
-    pub frame_none : r ≡ Nothing → (refused 7, out) ≡ told
+    pub frame_none : r ≡ None → (refused 7, out) ≡ told
     frame_none e = none_read command out s x r part w e ∙ same_told
 
-    pub frame_short : (n : ℕ) → r ≡ Next n → length out < n → (refused 6, out) ≡ told
+    pub frame_short : (n : ℕ) → r ≡ Some n → length out < n → (refused 6, out) ≡ told
     frame_short n e k = short_read command out s x r n e part w k ∙ same_told
 
-    pub frame_fits : (n : ℕ) → r ≡ Next n → n ≤ length out → (t : List ℕ) (v : Got) → Reads part out 0 t v → (answer (n, command), t) ≡ told
+    pub frame_fits : (n : ℕ) → r ≡ Some n → n ≤ length out → (t : List ℕ) (v : Option ℕ) → Reads part out 0 t v → (answer (n, command), t) ≡ told
     frame_fits n e k t v z = whole_read command out s x r n e part w k t v z ∙ same_told
 
-    pub frame_copied : (n : ℕ) → r ≡ Next n → n ≤ length out → n ≤ length s → (rest t : List ℕ) → t ≡ sets out 0 (take (n - 0) (x ++ rest)) → (answer (n, command), t) ≡ told
+    pub frame_copied : (n : ℕ) → r ≡ Some n → n ≤ length out → n ≤ length s → (rest t : List ℕ) → t ≡ sets out 0 (take (n - 0) (x ++ rest)) → (answer (n, command), t) ≡ told
     frame_copied n e k j rest t z = frame_fits n e k t r (read_copied out s x r n e part w j rest t z)

@@ -1,5 +1,7 @@
 -- The cases of data to code, by their tests, and of a frame that is coded in one run or two, of which the first measures.
 -- Assumes nothing.
+use Rattle.std.proofs.Common.{Result, Ok, Err}
+use Rattle.refusals.specs.declared.Refusal.{Refusal}
 use mathlib.Core.Path.{◌≡◌, refl, sym, ap, ◌∙◌}
 use mathlib.Core.Bool.{Bool}
 use mathlib.Core.List.{List, ◌++◌}
@@ -13,14 +15,12 @@ use lib.Seq.{sets}
 use borrow.Author.Tests.{lt-ltb, le-ltb, eq-eqb, ne_eqb}
 use Rattle.laws.specs.Wrote.{Wrote}
 use Rattle.laws.proofs.Cases.{pick_true, pick_false}
-use Rattle.refusals.specs.Outcome.{Outcome, refused, answer}
-use Rattle.refusals.proofs.OutcomeLaws.{answer_not}
+use Rattle.refusals.specs.Outcome.{Outcome, refused, answer, number, outcome_of}
+use Rattle.refusals.proofs.OutcomeLaws.{answer_not, same_refusal}
 use Rattle.ax25_address.specs.Parse.{Parsed, parse_of, type_of}
 use Rattle.ax25_address.specs.Record.{Seen, seen, seen_of}
 use Rattle.ax25_address.specs.Types.{Text, call_len}
 use Rattle.ax25_address.proofs.RecordLaws.{known}
-use Rattle.ax25_aprs.specs.declared.part.Part.{Part}
-use Rattle.ax25_aprs.specs.declared.part.Part.TheVariants.{Next, Refused}
 use Rattle.ax25.specs.Codes.{Codes}
 use Rattle.ax25.specs.Encode.{Coded, header_of, head_bits, frame_bits, packed, code_parsed, encode_of}
 use Rattle.ax25.proofs.SizeLaws.{three_from, four_from}
@@ -77,28 +77,24 @@ code_type command d s f c e =
 
 -- ---- one run or two
 
-not_both : {r : Part} {n m : ℕ} → r ≡ Next n → r ≡ Refused m → ⊥
-not_both e f = let z : ◌≡◌ {A = ℕ} 0 1 = cc in omega arith
+not_both : {r : Result ℕ Refusal} {n m : ℕ} → r ≡ Ok n → outcome_of r ≡ refused m → ⊥
+not_both e f = answer_not (sym (ap outcome_of e) ∙ f)
 
 -- a run codes o from s to t and answers r: what that says of the length alone
-module _ (s t : List ℕ) (r : Part) (n : ℕ) where
-  pub run_none : (o : Outcome Coded) → Codes o s t r → r ≡ Refused n → refused n ≡ length_of o
-  run_none (refused m) w e = cc
-  run_none (answer c) w e = absurd (not_both w.0 e)
-
-  pub run_length : (o : Outcome Coded) → Codes o s t r → r ≡ Next n → answer n ≡ length_of o
-  run_length (refused m) w e = absurd (not_both e w)
-  run_length (answer c) w e = let size : n ≡ length c.bytes = cc in ap answer size
+module _ (s t : List ℕ) (r : Result ℕ Refusal) where
+  pub run_length : (o : Outcome Coded) → Codes o s t r → outcome_of r ≡ length_of o
+  run_length (refused m) w = w
+  run_length (answer c) w = ap outcome_of w.0
 
 -- the first run codes o from s to x and answers r
-module _ (out s x : List ℕ) (r : Part) where
-  pub run_refused : (o : Outcome Coded) → Codes o s x r → (n : ℕ) → r ≡ Refused n → (refused n, out) ≡ code_into o out
-  run_refused (refused m) w n e =
-      let f : ◌≡◌ {A = Outcome Coded} (refused m) (refused n) = cc in
-      tell_refused (λ c. c.bytes) (λ c. c.typ) out {o = refused m} n f
-  run_refused (answer c) w n e = absurd (not_both w.0 e)
+module _ (out s x : List ℕ) (r : Result ℕ Refusal) where
+  pub run_refused : (o : Outcome Coded) → Codes o s x r → (e : Refusal) → r ≡ Err e → (refused (number e), out) ≡ code_into o out
+  run_refused (refused m) w e h =
+      let f : m ≡ number e = same_refusal (sym w ∙ ap outcome_of h) in
+      tell_refused (λ c. c.bytes) (λ c. c.typ) out {o = refused m} (number e) (ap refused f)
+  run_refused (answer c) w e h = absurd (not_both w.0 (ap outcome_of h))
 
-  module _ (n : ℕ) (e : r ≡ Next n) where
+  module _ (n : ℕ) (e : r ≡ Ok n) where
     sized : (c : Coded) → Codes (answer c) s x r → Wrote s 0 c.bytes x n
     sized c w = let k : n ≡ length c.bytes = cc in record { stored = w.1.stored; next_is = k ∙ sym (zero-add (length c.bytes)) }
 
@@ -107,7 +103,7 @@ module _ (out s x : List ℕ) (r : Part) where
     run_short (answer c) w h = first_short (λ c. c.bytes) (λ c. c.typ) out c {o = answer c} refl (sized c w) h
 
     pub run_fits : (o : Outcome Coded) (t : ℕ) → ((c : Coded) → o ≡ answer c → c.typ ≡ t) → Codes o s x r → n ≤ length out
-        → (u : List ℕ) (v : Part) → Codes o out u v → (answer (n, t), u) ≡ code_into o out
+        → (u : List ℕ) (v : Result ℕ Refusal) → Codes o out u v → (answer (n, t), u) ≡ code_into o out
     run_fits (refused m) t f w h u v z = absurd (not_both e w)
     run_fits (answer c) t f w h u v z =
         ap (λ (y : ℕ). (answer (n, y), u)) (sym (f c refl)) ∙ first_fits (λ c. c.bytes) (λ c. c.typ) out c {o = answer c} refl (sized c w) h z.1
@@ -118,7 +114,7 @@ module _ (out s x : List ℕ) (r : Part) where
     run_copied (answer c) w h rest u z = let k : length c.bytes ≡ n = cc in (w.0, copied_out w.1 n k h out rest z)
 
 -- the same of a frame whose record is known
-module _ (command : ℕ) (d : List ℕ) (k : Seen) (f : Some k ≡ seen_of command (parse_of (call_len command) d)) (out s x : List ℕ) (r : Part) (w : Codes (encode_of command d) s x r) where
-  pub frame_run_fits : (n : ℕ) → r ≡ Next n → n ≤ length out → (u : List ℕ) (t : Part) → Codes (encode_of command d) out u t
+module _ (command : ℕ) (d : List ℕ) (k : Seen) (f : Some k ≡ seen_of command (parse_of (call_len command) d)) (out s x : List ℕ) (r : Result ℕ Refusal) (w : Codes (encode_of command d) s x r) where
+  pub frame_run_fits : (n : ℕ) → r ≡ Ok n → n ≤ length out → (u : List ℕ) (t : Result ℕ Refusal) → Codes (encode_of command d) out u t
       → (answer (n, k.typ), u) ≡ code_into (encode_of command d) out
   frame_run_fits n e h u t v = run_fits out s x r n e (encode_of command d) k.typ (code_type command d k f) w h u t v

@@ -16,7 +16,6 @@ use Rattle.laws.proofs.ListLaws.{from_place}
 use Rattle.laws.proofs.WroteLaws.{wrote_as}
 use Rattle.bits_write.specs.Text7.{text7_bits}
 use Rattle.bits.specs.Text7.{text7_of, text7_next, text7_left}
-use Rattle.bits.specs.declared.read.Got.TheVariants.{Nothing, Next}
 use Rattle.bits_write.proofs.Text7Laws.{length_text7, text7_whole}
 use Rattle.ax25_address.specs.Classify.{any_high}
 use Rattle.ax25.proofs.PackLaws.{behind_byte, byte_leaves, pack_wrote}
@@ -51,12 +50,12 @@ module _ (d : List ℕ) {s t u : List ℕ} {p next : ℕ} where
 
 -- what `text7` left is the text, or nothing
 module _ {s u : List ℕ} where
-  next_wrote : (o : Option (List ℕ)) {n : ℕ} → text7_next 0 o ≡ Next n → u ≡ text7_left s 0 o → Wrote s 0 (unwrap_or o []) u n
+  next_wrote : (o : Option (List ℕ)) {n : ℕ} → text7_next 0 o ≡ Some n → u ≡ text7_left s 0 o → Wrote s 0 (unwrap_or o []) u n
   unfolding text7_next text7_left
   next_wrote None e f = let z : ◌≡◌ {A = ℕ} 0 1 = cc in absurd (omega arith)
   next_wrote (Some t) e f = record { stored = f; next_is = cc }
 
-  none_wrote : (o : Option (List ℕ)) → text7_next 0 o ≡ Nothing → u ≡ text7_left s 0 o → Wrote s 0 (unwrap_or o []) u 0
+  none_wrote : (o : Option (List ℕ)) → text7_next 0 o ≡ None → u ≡ text7_left s 0 o → Wrote s 0 (unwrap_or o []) u 0
   unfolding text7_next text7_left
   none_wrote None e f = record { stored = f; next_is = refl }
   none_wrote (Some t) e f = let z : ◌≡◌ {A = ℕ} 0 1 = cc in absurd (omega arith)
@@ -77,10 +76,10 @@ module _ (h : ℕ) (m : List ℕ) where
   pub bytes_back : {s u : List ℕ} {n : ℕ} → h % 2 ≡ 0 → Wrote s 0 (rest m) u n → Wrote s 0 (generic_back h (drop 1 m)) u n
   bytes_back e w = wrote_as (bytes_is e) w
 
-  pub text_back : {s u : List ℕ} {n : ℕ} → (h % 2 ≡ 0 → ⊥) → text7_next 0 (text7_of (unpack (rest m)) 0) ≡ Next n → u ≡ text7_left s 0 (text7_of (unpack (rest m)) 0)
+  pub text_back : {s u : List ℕ} {n : ℕ} → (h % 2 ≡ 0 → ⊥) → text7_next 0 (text7_of (unpack (rest m)) 0) ≡ Some n → u ≡ text7_left s 0 (text7_of (unpack (rest m)) 0)
       → Wrote s 0 (generic_back h (drop 1 m)) u n
   text_back e f g = wrote_as (text_is e) (next_wrote (text7_of (unpack (rest m)) 0) f g)
 
-  pub nothing_back : {s u : List ℕ} → (h % 2 ≡ 0 → ⊥) → text7_next 0 (text7_of (unpack (rest m)) 0) ≡ Nothing → u ≡ text7_left s 0 (text7_of (unpack (rest m)) 0)
+  pub nothing_back : {s u : List ℕ} → (h % 2 ≡ 0 → ⊥) → text7_next 0 (text7_of (unpack (rest m)) 0) ≡ None → u ≡ text7_left s 0 (text7_of (unpack (rest m)) 0)
       → Wrote s 0 (generic_back h (drop 1 m)) u 0
   nothing_back e f g = wrote_as (text_is e) (none_wrote (text7_of (unpack (rest m)) 0) f g)

@@ -3,8 +3,6 @@ ghost use Rattle.std.specs.Prelude.{◌^◌, ◌<◌, length, get_or, drop};
 ghost use Rattle.laws.specs.Wrote.{Wrote};
 ghost use Rattle.kiss.specs.Generic.{generic_of, generic_back};
 
-use bits::read::Got;
-
 // The message of the bytes, as far as the output goes. Its length.
 pub(crate) fn generic_encode(data: &[u8], out: &mut [u8]) -> usize
     requires { length «data».now < 2 ^ 56 }
@@ -26,8 +24,5 @@ pub(crate) fn generic_decode(message: &[u8], out: &mut [u8]) -> usize
     if message[0] % 2 == 0 {
         return bits_write::copy(out, 0, &message[1..]);
     }
-    let Got::Next(n) = bits::reader::text7_at(&message[1..], 0, out, 0) else {
-        return 0;
-    };
-    n
+    bits::reader::text7_at(&message[1..], 0, out, 0).unwrap_or(0)
 }

@@ -1,10 +1,9 @@
 // A recorded answer, a field or a piece of one, against ours.
 use crate::field::{hex, numeral, pieces};
-use texts::number::Number;
 use texts::part::piece;
 
 // What comes of a line: the answers are equal, they differ, or the line is not understood.
-#[derive(Clone, Copy)]
+#[derive(Clone, Copy, Debug, PartialEq, Eq)]
 pub enum Outcome {
     Equal,
     Differ,
@@ -13,19 +12,20 @@ pub enum Outcome {
 
 fn verdict(equal: bool) -> Outcome {
     if equal {
-        return Outcome::Equal;
+        Outcome::Equal
+    } else {
+        Outcome::Differ
     }
-    Outcome::Differ
 }
 
-// We have a word with no value behind it.
+// We have a word with no value after it.
 pub fn same_word(text: &[u8], word: &[u8]) -> Outcome {
-    verdict(check::same(text, word))
+    verdict(text == word)
 }
 
 // Whether the recorded call gave no answer.
 fn is_none(text: &[u8]) -> bool {
-    check::same(text, b"none")
+    text == b"none".as_slice()
 }
 
 // We have a number.
@@ -33,10 +33,10 @@ pub fn same_number(text: &[u8], v: u64) -> Outcome {
     if is_none(text) {
         return Outcome::Differ;
     }
-    let Number::Is(w) = numeral(text) else {
-        return Outcome::Bad;
-    };
-    verdict(v == w)
+    match numeral(text) {
+        Some(w) => verdict(v == w),
+        None => Outcome::Bad,
+    }
 }
 
 // We have no answer, where it would be a number.
@@ -45,8 +45,8 @@ pub fn no_number(text: &[u8]) -> Outcome {
         return Outcome::Equal;
     }
     match numeral(text) {
-        Number::Is(_) => Outcome::Differ,
-        Number::None => Outcome::Bad,
+        Some(_) => Outcome::Differ,
+        None => Outcome::Bad,
     }
 }
 
@@ -58,20 +58,18 @@ pub fn same_bytes(text: &[u8], ours: &[u8]) -> Outcome {
         return Outcome::Differ;
     }
     let mut space = io::large_buffer();
-    let read = hex(text, &mut space);
-    if !read.good {
-        return Outcome::Bad;
+    match hex(text, &mut space) {
+        Some(n) => verdict(&space[..n] == ours),
+        None => Outcome::Bad,
     }
-    let n = read.n;
-    verdict(check::same(&space[0..n], ours))
 }
 
 // We have the first n bytes of `out`. More than there is room for can't be compared.
 pub fn same_first(text: &[u8], out: &[u8], n: usize) -> Outcome {
-    if out.len() < n {
-        return Outcome::Bad;
+    match out.get(..n) {
+        Some(ours) => same_bytes(text, ours),
+        None => Outcome::Bad,
     }
-    same_bytes(text, &out[0..n])
 }
 
 // We have no answer, where it would be bytes.
@@ -82,16 +80,15 @@ pub fn no_bytes(text: &[u8]) -> Outcome {
         return Outcome::Equal;
     }
     let mut space = io::large_buffer();
-    let read = hex(text, &mut space);
-    if read.good {
-        return Outcome::Differ;
+    match hex(text, &mut space) {
+        Some(_) => Outcome::Differ,
+        None => Outcome::Bad,
     }
-    Outcome::Bad
 }
 
-// Whether an answer is this word, alone or with a value behind a colon.
+// Whether an answer is this word, alone or with a value after a colon.
 fn is_word(text: &[u8], word: &[u8]) -> bool {
-    check::same(piece(text, 0, b':'), word)
+    piece(text, 0, b':') == word
 }
 
 // Whether an answer has so many pieces, with a colon between each two.
@@ -112,7 +109,7 @@ pub fn same_refusal(text: &[u8], n: u8) -> Outcome {
     if !has(text, 2) {
         return Outcome::Bad;
     }
-    same_number(piece(text, 1, b':'), n as u64)
+    same_number(piece(text, 1, b':'), u64::from(n))
 }
 
 // We have a count, where it could be a refusal.
@@ -144,17 +141,9 @@ pub fn same_done(text: &[u8], store: &[u8], n: usize) -> Outcome {
 
 // What comes of two parts of an answer.
 fn both(a: Outcome, b: Outcome) -> Outcome {
-    match a {
-        Outcome::Equal => b,
-        Outcome::Differ => or_bad(b),
-        Outcome::Bad => Outcome::Bad,
-    }
-}
-
-// What comes of a part beside one that differs.
-fn or_bad(b: Outcome) -> Outcome {
-    match b {
-        Outcome::Bad => Outcome::Bad,
+    match (a, b) {
+        (Outcome::Bad, _) | (_, Outcome::Bad) => Outcome::Bad,
+        (Outcome::Equal, Outcome::Equal) => Outcome::Equal,
         _ => Outcome::Differ,
     }
 }

@@ -2,10 +2,7 @@
 
 // Whether a line is a comment.
 pub fn is_comment(s: &[u8]) -> bool {
-    if s.len() == 0 {
-        return false;
-    }
-    s[0] == b'#'
+    s.starts_with(b"#")
 }
 
 // The start of what is said of a line.

@@ -1,2 +1,1 @@
 pub mod Preview
-pub mod Told

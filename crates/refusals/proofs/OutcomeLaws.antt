@@ -3,7 +3,10 @@
 use mathlib.Core.Path.{◌≡◌, refl, sym, ap, ◌∙◌}
 use mathlib.Core.Bool.{Bool, true, false, false≢true}
 use mathlib.Core.List.{List}
-use Rattle.std.proofs.Common.{Result, Ok, Err}
+use Rattle.std.proofs.Common.{Option, None, Result, Ok, Err}
+use Rattle.std.specs.Option.{ok_or}
+use Rattle.std.specs.Result.{IsErrAnd}
+use Rattle.std.proofs.lemmas.Result.{err_from_is_err_and}
 use Prim.Native.Nat.{ℕ, ◌≤◌, ◌<◌}
 use native.Mathlib.Nat.{zero-add}
 use native.Mathlib.Omega.{arith}
@@ -110,3 +113,19 @@ module _ {A : Type 0} {r : Result A Refusal} where
 
   pub outcome_err : {o : Outcome A} {x : Refusal} → outcome_of r ≡ o → r ≡ Err x → o ≡ refused (number x)
   outcome_err e h = sym e ∙ ap outcome_of h
+
+-- ---- what the exit of a `?` returns
+
+-- the refusal that it passes on
+pub exit_is : {A : Type 0} (r : Result A Refusal) (e : Refusal) → IsErrAnd r (λ y. y ≡ e) → outcome_of r ≡ refused (number e)
+exit_is r e h =
+    let p = err_from_is_err_and r h in
+    rw (p.1, p.2)
+
+same_err : {A : Type 0} {x y : Refusal} → ◌≡◌ {A = Result A Refusal} (Err y) (Err x) → y ≡ x
+same_err e = cc
+
+-- the refusal x that stands for a missing value
+pub exit_none : {T A : Type 0} {o : Option T} (x : Refusal) {y : Refusal} → Err y ≡ ok_or o x → o ≡ None
+    → (r : Result A Refusal) → IsErrAnd r (λ z. z ≡ y) → outcome_of r ≡ refused (number x)
+exit_none x e n r h = exit_is r _ h ∙ ap (λ (z : Refusal). refused (number z)) (same_err (rw n at e))

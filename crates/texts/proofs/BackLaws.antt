@@ -16,7 +16,7 @@ use Rattle.laws.proofs.TextLaws.{below, at_each}
 use Rattle.texts.specs.Hex.{digit_of, hex_byte, hex_of, hex_value, is_hex, bytes_of, read_of}
 use Rattle.texts.specs.Part.{before, behind, piece_of, without_cr}
 use Rattle.texts.specs.Say.{word_of, command_of, digits_of, spelled_of, line_room}
-use Rattle.texts.specs.declared.hex.Read.TheVariants as read
+use Rattle.std.proofs.Common.{Ok}
 use Rattle.texts.proofs.HexLaws.{read_all}
 use Rattle.texts.proofs.SayLaws.{digits_none, digits_some}
 use Rattle.texts.proofs.ShowLaws.{hex_length}
@@ -58,11 +58,11 @@ hex_digits (x ∷ s) h =
     rw (digit_back (x / 16) (omega arith), digit_back (x % 16) (omega arith), lt-ltb (x / 16) 16 (omega arith), lt-ltb (x % 16) 16 (omega arith), hex_digits s (λ i k. h (suc i) (suc-le-suc k)))
 
 -- where there is room for them, all of them are read
-pub hex_read : (room : ℕ) (s : List ℕ) → Bytes s → length s ≤ room → read_of room (hex_of s) ≡ read.Bytes (length s)
+pub hex_read : (room : ℕ) (s : List ℕ) → Bytes s → length s ≤ room → read_of room (hex_of s) ≡ Ok (length s)
 hex_read room s h few =
     let size : length (hex_of s) / 2 ≡ length s = omega (arith, hex_length s) in
     let even : length (hex_of s) % 2 ≡ 1 → ⊥ = λ q. omega (arith, hex_length s, q) in
-    sym (read_all room (hex_of s) (hex_digits s h) even (omega (arith, size, few))) ∙ ap read.Bytes size
+    sym (read_all room (hex_of s) (hex_digits s h) even (omega (arith, size, few))) ∙ ap Ok size
 
 -- ---- a text whose bytes are all above a bound
 
@@ -174,7 +174,7 @@ module _ (command : ℕ) (known : command ≤ 2) where
 -- a line is read as a command and bytes
 abbrev pub Spells : List ℕ → ℕ → List ℕ → Type 0
 Spells line command d =
-    (command_of (before 32 line) ≡ command) × (read_of line_room (behind 32 line) ≡ read.Bytes (length d)) × (bytes_of (behind 32 line) ≡ d)
+    (command_of (before 32 line) ≡ command) × (read_of line_room (behind 32 line) ≡ Ok (length d)) × (bytes_of (behind 32 line) ≡ d)
 
 pub spelled_back : (command : ℕ) (d : List ℕ) → command ≤ 2 → Bytes d → length d ≤ line_room → Spells (without_cr (spelled_of command d)) command d
 spelled_back command d known h few =

@@ -1,23 +1,28 @@
 -- Digits and their values, and texts of them from the front.
 -- Assumes nothing.
 use mathlib.Core.Path.{◌≡◌, refl, ap, sym, ◌∙◌}
-use mathlib.Core.Bool.{true, false, ◌&&◌}
+use mathlib.Core.Bool.{true, false}
 use mathlib.Core.List.{List, [], ◌∷◌, ◌++◌, append_assoc, append-nil, flat_map}
 use Prim.Native.Nat.{ℕ, zero, suc, ◌+◌, ◌-◌, ◌*◌, ◌/◌, ◌%◌, ◌≤◌, ◌<◌}
 use native.Mathlib.Nat.{not-suc-le-zero, le_of_suc-le-suc, suc-mul}
 use native.Mathlib.Numerals.{add-one}
 use native.Mathlib.Omega.{arith}
-use lib.ListN.{length, get_or, take, drop, length-append, drop_of_length-le}
-use lib.Seq.{sets, drop-cons, take-suc}
+use lib.ListN.{length, get_or, take, length-append}
+use lib.Seq.{sets, take-suc}
 use lib.Dec.{eqb, ltb}
 use borrow.Author.Tests.{lt-ltb, le-ltb, ltb-true, ltb-false, eq-eqb, ne_eqb}
 use Rattle.laws.specs.Pick.{pick}
 use Rattle.laws.proofs.Cases.{by_test, pick_true, pick_false, and_left, and_right}
 use Rattle.laws.proofs.ListLaws.{take_sets}
 use Rattle.laws.proofs.TrimLaws.{between_below, between_yes, between_above}
-use Rattle.texts.specs.Hex.{hex_value, is_hex, bytes_of, read_of, left_by}
-use Rattle.texts.specs.declared.hex.Read.{Read}
-use Rattle.texts.specs.declared.hex.Read.TheVariants.{Bytes, NoDigit, Odd, TooLong}
+use Rattle.std.proofs.Common.{None, Some, Result, Ok, Err}
+use Rattle.std.specs.List.{list_all}
+use Rattle.std.proofs.Common.{rules}
+use Rattle.std.specs.Option.{IfSome, is_some}
+use Rattle.std.specs.Result.{result_ok}
+use Rattle.texts.specs.Hex.{hex_value, digit_value, is_hex, bytes_of, read_of, left_by}
+use Rattle.texts.specs.declared.hex.HexError.{HexError}
+use Rattle.texts.specs.declared.hex.HexError.TheVariants.{NoDigit, Odd, TooLong}
 
 -- ---- texts that are made byte by byte
 
@@ -75,16 +80,24 @@ module _ (c : ℕ) where
   value_high h =
       rw (between_above 48 57 c (omega arith) (omega arith), between_above 65 70 c (omega arith) (omega arith), between_above 97 102 c (omega arith) h)
 
+module _ (c : ℕ) where
+  pub digit_none : hex_value c ≡ 16 → None ≡ digit_value c
+  unfolding digit_value
+  digit_none e = sym (pick_false _ _ (le-ltb (hex_value c) 16 (omega arith)))
+
+  pub digit_some : (v : ℕ) → hex_value c ≡ v → v < 16 → Some v ≡ digit_value c
+  unfolding digit_value
+  digit_some v e h = ap Some (sym e) ∙ sym (pick_true _ _ (lt-ltb (hex_value c) 16 (omega arith)))
+
 -- ---- a text of digits
 
-module _ (s : List ℕ) (i : ℕ) where
-  pub hex_end : length s ≤ i → is_hex (drop i s) ≡ true
-  unfolding is_hex
-  hex_end h = rw (drop_of_length-le s h)
-
-  pub hex_at : i < length s → is_hex (drop i s) ≡ (ltb (hex_value (get_or s i 0)) 16 && is_hex (drop (i + 1) s))
-  unfolding is_hex
-  hex_at h = rw (drop-cons s i 0 h, add-one i)
+pub hex_all : (s : List ℕ) → list_all (λ c. is_some (digit_value c)) s ≡ is_hex s
+unfolding is_hex digit_value pick
+hex_all [] = refl
+hex_all (c ∷ s) =
+    by_test (ltb (hex_value c) 16)
+    (λ t. rw (t, hex_all s))
+    (λ t. rw t)
 
 -- each of its bytes has a value below 16
 pub hex_digit : (s : List ℕ) → is_hex s ≡ true → (i : ℕ) → i < length s → hex_value (get_or s i 0) < 16
@@ -110,21 +123,21 @@ bytes_more (x ∷ y ∷ s) (suc i) h =
 -- ---- what is read
 
 module _ (room : ℕ) (s : List ℕ) where
-  pub read_other : is_hex s ≡ false → NoDigit ≡ read_of room s
+  pub read_other : is_hex s ≡ false → Err NoDigit ≡ read_of room s
   unfolding read_of
   read_other e = sym (pick_false _ _ e)
 
   module _ (hex : is_hex s ≡ true) where
-    pub read_odd : length s % 2 ≡ 1 → Odd ≡ read_of room s
+    pub read_odd : length s % 2 ≡ 1 → Err Odd ≡ read_of room s
     unfolding read_of
     read_odd h = sym (pick_true _ _ hex ∙ pick_true _ _ (eq-eqb (length s % 2) 1 h))
 
     module _ (even : length s % 2 ≡ 1 → ⊥) where
-      pub read_long : room < length s / 2 → TooLong ≡ read_of room s
+      pub read_long : room < length s / 2 → Err TooLong ≡ read_of room s
       unfolding read_of
       read_long h = sym (pick_true _ _ hex ∙ (pick_false _ _ (ne_eqb (length s % 2) 1 even) ∙ pick_true _ _ (lt-ltb room (length s / 2) h)))
 
-      pub read_all : length s / 2 ≤ room → Bytes (length s / 2) ≡ read_of room s
+      pub read_all : length s / 2 ≤ room → Ok (length s / 2) ≡ read_of room s
       unfolding read_of
       read_all h = sym (pick_true _ _ hex ∙ (pick_false _ _ (ne_eqb (length s % 2) 1 even) ∙ pick_false _ _ (le-ltb room (length s / 2) h)))
 
@@ -139,36 +152,29 @@ bytes_length (h ∷ l ∷ s) =
     rw (e, bytes_length s)
 
 -- what was read stands in front: so many bytes, for which there was room
-pub read_back : (room : ℕ) (s : List ℕ) (n : ℕ) → Bytes n ≡ read_of room s → (n ≡ length (bytes_of s)) × (length (bytes_of s) ≤ room)
+pub read_back : (room : ℕ) (s : List ℕ) (n : ℕ) → Ok n ≡ read_of room s → (n ≡ length (bytes_of s)) × (length (bytes_of s) ≤ room)
 unfolding read_of
 read_back room s n e =
     by_test (is_hex s)
     (λ t. by_test (eqb (length s % 2) 1)
-    (λ u. absurd (bytes_not_odd n (e ∙ pick_true _ _ t ∙ pick_true _ _ u)))
+    (λ u. cc (pick_true _ _ t, pick_true _ _ u))
     (λ u. by_test (ltb room (length s / 2))
-    (λ v. absurd (bytes_not_long n (e ∙ pick_true _ _ t ∙ pick_false _ _ u ∙ pick_true _ _ v)))
+    (λ v. cc (pick_true _ _ t, pick_false _ _ u, pick_true _ _ v))
     (λ v.
-    let k : n ≡ length s / 2 = same_bytes n (length s / 2) (e ∙ pick_true _ _ t ∙ pick_false _ _ u ∙ pick_false _ _ v) in
+    let k : n ≡ length s / 2 = grind (arith, e ∙ pick_true _ _ t ∙ pick_false _ _ u ∙ pick_false _ _ v) in
     (omega (arith, k, bytes_length s), omega (arith, bytes_length s, ltb-false room (length s / 2) v)))))
-    (λ t. absurd (bytes_not_other n (e ∙ pick_false _ _ t)))
-  where
-    same_bytes : (m k : ℕ) → Bytes m ≡ Bytes k → m ≡ k
-    same_bytes m k q = cc
+    (λ t. cc (pick_false _ _ t))
 
-    bytes_not_odd : (m : ℕ) → Bytes m ≡ Odd → ⊥
-    bytes_not_odd m q = let z : ◌≡◌ {A = ℕ} 0 1 = cc in omega arith
+-- no more are read than there is room for
+pub read_few : (room : ℕ) (s : List ℕ) (r : Result ℕ HexError) → r ≡ read_of room s → IfSome (result_ok r) (λ n. n ≤ room)
+read_few room s (Ok n) e = let k = read_back room s n e in omega (arith, k.0, k.1)
+read_few room s (Err x) e = search rules
 
-    bytes_not_long : (m : ℕ) → Bytes m ≡ TooLong → ⊥
-    bytes_not_long m q = let z : ◌≡◌ {A = ℕ} 0 1 = cc in omega arith
-
-    bytes_not_other : (m : ℕ) → Bytes m ≡ NoDigit → ⊥
-    bytes_not_other m q = let z : ◌≡◌ {A = ℕ} 0 1 = cc in omega arith
-
-pub read_front : (room : ℕ) (s out t : List ℕ) (r : Read) (n : ℕ) → r ≡ read_of room s → t ≡ left_by r s out → r ≡ Bytes n → length out ≡ room → take n t ≡ bytes_of s
+pub read_front : (room : ℕ) (s out t : List ℕ) (r : Result ℕ HexError) (n : ℕ) → r ≡ read_of room s → t ≡ left_by r s out → r ≡ Ok n → length out ≡ room → take n t ≡ bytes_of s
 unfolding left_by
 read_front room s out t r n e l told size =
     let k = read_back room s n (sym told ∙ e) in
     let z : 0 + length (bytes_of s) ≡ n = omega arith in
-    ap (take n) (l ∙ ap (λ (q : Read). left_by q s out) told)
+    ap (take n) (l ∙ ap (λ (q : Result ℕ HexError). left_by q s out) told)
     ∙ ap (λ (m : ℕ). take m (sets out 0 (bytes_of s))) (sym z)
     ∙ take_sets out 0 (bytes_of s) (omega (arith, k.1, size))

@@ -1,9 +1,10 @@
 -- Decimal numbers, digit by digit.
 -- Assumes nothing.
 use mathlib.Core.Path.{◌≡◌, refl, ap, sym, ◌∙◌}
-use mathlib.Core.Bool.{◌&&◌}
+use mathlib.Core.Bool.{true, false, ◌&&◌}
 use mathlib.Core.List.{List, [], ◌∷◌, ◌++◌}
-use Rattle.std.proofs.Common.{None, Some}
+use Rattle.std.proofs.Common.{Option, None, Some}
+use Rattle.std.specs.Option.{SomeIff}
 use Rattle.std.proofs.lemmas.Option.{none-some, same_Some}
 use Prim.Native.Nat.{ℕ, zero, suc, ◌+◌, ◌-◌, ◌*◌, ◌/◌, ◌%◌, ◌^◌, ◌≤◌, ◌<◌}
 use native.Mathlib.Numerals.{add-one}
@@ -11,9 +12,9 @@ use native.Mathlib.Omega.{arith}
 use lib.ListN.{length, get_or, drop, length-append, drop_of_length-le}
 use lib.Seq.{drop-cons}
 use lib.Dec.{ltb}
-use borrow.Author.Tests.{le-leb, lt-leb, lt-ltb, le-ltb}
+use borrow.Author.Tests.{lt-ltb, le-ltb}
 use Rattle.laws.specs.Pick.{pick}
-use Rattle.laws.specs.Text.{between, is_digit}
+use Rattle.laws.specs.Text.{is_digit}
 use Rattle.laws.proofs.Cases.{by_test, by_le}
 use Rattle.texts.specs.Number.{numeral_from, numeral_of, with_digit, number_from, decimal_of}
 
@@ -63,22 +64,25 @@ numeral_length n = length_from 20 n
 -- ---- a digit more
 
 module _ (v c : ℕ) where
-  module _ (s : List ℕ) where
-    pub number_low : c < 48 → number_from v (c ∷ s) ≡ None
-    unfolding number_from pick is_digit between
-    number_low h = rw (lt-leb 48 c h)
+  pub number_other : is_digit c ≡ false → None ≡ number_from v (c ∷ [])
+  unfolding number_from pick
+  number_other e = rw e
 
-    pub number_high : 48 ≤ c → 57 < c → number_from v (c ∷ s) ≡ None
-    unfolding number_from pick is_digit between
-    number_high h k = rw (le-leb 48 c h, lt-leb c 57 k)
+  module _ (digit : is_digit c ≡ true) where
+    pub number_wide : 2 ^ 64 ≤ v * 10 + (c - 48) → None ≡ number_from v (c ∷ [])
+    unfolding number_from with_digit pick
+    number_wide w = rw (digit, le-ltb (v * 10 + (c - 48)) (2 ^ 64) w)
 
-    pub number_wide : 48 ≤ c → c ≤ 57 → 2 ^ 64 ≤ v * 10 + (c - 48) → number_from v (c ∷ s) ≡ None
-    unfolding number_from with_digit pick is_digit between
-    number_wide h k w = rw (le-leb 48 c h, le-leb c 57 k, le-ltb (v * 10 + (c - 48)) (2 ^ 64) w)
-
-    pub number_on : 48 ≤ c → c ≤ 57 → v * 10 + (c - 48) < 2 ^ 64 → number_from v (c ∷ s) ≡ number_from (v * 10 + (c - 48)) s
-    unfolding number_from with_digit pick is_digit between
-    number_on h k w = rw (le-leb 48 c h, le-leb c 57 k, lt-ltb (v * 10 + (c - 48)) (2 ^ 64) w)
+    -- what `checked_add` answers
+    pub number_added : (r : Option ℕ) (w d : ℕ) → w ≡ v * 10 → d ≡ c - 48 → SomeIff r (w + d < 2 ^ 64) (w + d) → r ≡ number_from v (c ∷ [])
+    unfolding number_from with_digit pick
+    number_added None w d e f h =
+        by_le (2 ^ 64) (w + d)
+        (λ k. number_wide (omega arith))
+        (λ k. absurd (h k))
+    number_added (Some x) w d e f h =
+        let z : x ≡ v * 10 + (c - 48) = omega (arith, h.1) in
+        rw (digit, lt-ltb (v * 10 + (c - 48)) (2 ^ 64) (omega (arith, h.0)), z)
 
   -- what a digit says of the rest
   pub number_stop : (s : List ℕ) → None ≡ number_from v (c ∷ []) → number_from v (c ∷ s) ≡ None

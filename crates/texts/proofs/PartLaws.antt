@@ -10,6 +10,7 @@ use lib.ListN.{length, get_or, take, drop, length-drop, drop_of_length-le}
 use lib.Seq.{drop-cons, drop-drop, take-suc, take_all}
 use lib.Dec.{eqb}
 use borrow.Author.Tests.{eq-eqb, ne_eqb}
+use Rattle.laws.specs.Bits.{num}
 use Rattle.laws.specs.Pick.{pick}
 use Rattle.laws.proofs.Cases.{by_test, pick_true, pick_false}
 use Rattle.texts.specs.Part.{before, behind, piece_of, without_cr}
@@ -128,3 +129,29 @@ pub piece_length : (b k : ℕ) (s : List ℕ) → length (piece_of b k s) ≤ le
 unfolding piece_of
 piece_length b zero s = before_length b s
 piece_length b (suc k) s = omega (arith, piece_length b k (behind b s), behind_length b s)
+
+-- ---- past the last piece there is none
+
+-- how often a byte stands in a text
+unfoldable pub places : ℕ → List ℕ → ℕ
+places b [] = 0
+places b (x ∷ s) = num (eqb x b) + places b s
+
+places_behind : (b : ℕ) (s : List ℕ) → places b (behind b s) ≡ places b s - 1
+unfolding places behind pick num
+places_behind b [] = refl
+places_behind b (x ∷ s) = by_test (eqb x b) (λ t. rw t (omega arith)) (λ t. rw t (omega (arith, places_behind b s)))
+
+behind_nothing : (b : ℕ) (s : List ℕ) → places b s ≡ 0 → behind b s ≡ []
+unfolding places behind pick num
+behind_nothing b [] h = refl
+behind_nothing b (x ∷ s) h =
+    by_test (eqb x b)
+    (λ t. absurd (let k : 1 + places b s ≡ 0 = rw t at h in omega arith))
+    (λ t. rw t (behind_nothing b s (omega (arith, rw t at h))))
+
+pub piece_past : (b n : ℕ) (s : List ℕ) → places b s < n → piece_of b n s ≡ []
+unfolding piece_of before
+piece_past b zero s h = absurd (not-suc-le-zero h)
+piece_past b (suc zero) s h = rw (behind_nothing b s (omega arith))
+piece_past b (suc (suc n)) s h = piece_past b (suc n) (behind b s) (omega (arith, places_behind b s))

@@ -7,20 +7,23 @@ use native.Mathlib.Omega.{arith}
 use lib.ListN.{length}
 use Rattle.laws.specs.Pick.{pick}
 use Rattle.laws.specs.Text.{ascii, between}
-use Rattle.laws.proofs.Cases.{by_test}
+use Rattle.laws.proofs.Cases.{by_test, by_le}
 use Rattle.laws.proofs.TrimLaws.{between_below, between_yes, between_above}
 use Rattle.texts.specs.Hex.{hex_byte, hex_of}
 use Rattle.texts.specs.Show.{shown_byte, shown}
 use Rattle.texts.proofs.HexLaws.{flat_length}
 
 module _ (x : ℕ) where
-  pub shown_low : x < 0x20 → shown_byte x ≡ ascii "<0x" ++ (hex_byte x ++ ascii ">")
+  shown_low : x < 0x20 → shown_byte x ≡ ascii "<0x" ++ (hex_byte x ++ ascii ">")
   unfolding shown_byte pick
   shown_low h = rw (between_below 0x20 0x7E x h)
 
-  pub shown_high : 0x7E < x → shown_byte x ≡ ascii "<0x" ++ (hex_byte x ++ ascii ">")
+  shown_high : 0x7E < x → shown_byte x ≡ ascii "<0x" ++ (hex_byte x ++ ascii ">")
   unfolding shown_byte pick
   shown_high h = rw (between_above 0x20 0x7E x (omega arith) h)
+
+  pub shown_other : (0x20 ≤ x → x ≤ 0x7E → ⊥) → shown_byte x ≡ ascii "<0x" ++ (hex_byte x ++ ascii ">")
+  shown_other h = by_le 0x20 x (λ low. shown_high (by_le x 0x7E (λ high. absurd (h low high)) (λ high. high))) shown_low
 
   pub shown_plain : 0x20 ≤ x → x ≤ 0x7E → shown_byte x ≡ x ∷ []
   unfolding shown_byte pick

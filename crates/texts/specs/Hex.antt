@@ -1,12 +1,13 @@
 -- Bytes in hexadecimal.
 -- Assumes nothing.
+use Rattle.std.specs.Prelude.{Option, None, Some, Result, Ok, Err}
 use Rattle.std.specs.Prelude.{Bool, true, ◌&&◌, ℕ, ◌+◌, ◌-◌, ◌*◌, ◌/◌, ◌%◌, length, get_or, eqb, ltb}
 use mathlib.Core.List.{List, [], ◌∷◌, flat_map}
 use Rattle.std.proofs.lemmas.List.Edits.{sets}
 use Rattle.laws.specs.Pick.{pick}
 use Rattle.laws.specs.Text.{ascii, between}
-use Rattle.texts.specs.declared.hex.Read.{Read}
-use Rattle.texts.specs.declared.hex.Read.TheVariants.{Bytes, NoDigit, Odd, TooLong}
+use Rattle.texts.specs.declared.hex.HexError.{HexError}
+use Rattle.texts.specs.declared.hex.HexError.TheVariants.{NoDigit, Odd, TooLong}
 
 -- the capital digit of a number below 16
 unfoldable pub digit_of : ℕ → ℕ
@@ -26,6 +27,10 @@ hex_value c =
     (pick (between 65 70 c) (c - 55)
     (pick (between 97 102 c) (c - 87) 16))
 
+-- the same for a digit, none for any other byte
+unfoldable pub digit_value : ℕ → Option ℕ
+digit_value c = pick (ltb (hex_value c) 16) (Some (hex_value c)) None
+
 -- every byte is a digit
 unfoldable pub is_hex : List ℕ → Bool
 is_hex [] = true
@@ -38,15 +43,13 @@ bytes_of (h ∷ []) = []
 bytes_of (h ∷ l ∷ s) = (hex_value h * 16 + hex_value l) ∷ bytes_of s
 
 -- what is read of a text where there is room for so many bytes
-unfoldable pub read_of : ℕ → List ℕ → Read
+unfoldable pub read_of : ℕ → List ℕ → Result ℕ HexError
 read_of room s =
     pick (is_hex s)
-    (pick (eqb (length s % 2) 1) Odd (pick (ltb room (length s / 2)) TooLong (Bytes (length s / 2))))
-    NoDigit
+    (pick (eqb (length s % 2) 1) (Err Odd) (pick (ltb room (length s / 2)) (Err TooLong) (Ok (length s / 2))))
+    (Err NoDigit)
 
 -- the lent output afterwards
-unfoldable pub left_by : Read → List ℕ → List ℕ → List ℕ
-left_by (Bytes n) s out = sets out 0 (bytes_of s)
-left_by NoDigit s out = out
-left_by Odd s out = out
-left_by TooLong s out = out
+unfoldable pub left_by : Result ℕ HexError → List ℕ → List ℕ → List ℕ
+left_by (Ok n) s out = sets out 0 (bytes_of s)
+left_by (Err e) s out = out

@@ -4,8 +4,6 @@ use Rattle.std.specs.Prelude.{◌&&◌, List, [], ◌∷◌, ◌++◌, ℕ, zero
 use Rattle.std.specs.Prelude.{Option, None, Some}
 use Rattle.laws.specs.Pick.{pick}
 use Rattle.laws.specs.Text.{is_digit}
-use Rattle.texts.specs.declared.number.Number.{Number}
-use Rattle.texts.specs.declared.number.Number.TheVariants.{Is, None}
 
 -- the digits of a number that so many hold, with no zero in front
 unfoldable pub numeral_from : ℕ → ℕ → List ℕ
@@ -29,8 +27,3 @@ number_from v (c ∷ s) = pick (is_digit c && ltb (with_digit v c) (2 ^ 64)) (nu
 unfoldable pub decimal_of : List ℕ → Option ℕ
 decimal_of [] = None
 decimal_of (c ∷ s) = number_from 0 (c ∷ s)
-
--- the answer
-abbrev pub number_is : Number → Option ℕ
-number_is (Is v) = Some v
-number_is None = None

@@ -1,13 +1,14 @@
 -- What is said of a line.
 -- Assumes nothing.
-use Rattle.std.specs.Prelude.{List, [], ◌∷◌, ◌++◌, ℕ, length, eqb}
+use Rattle.std.specs.Prelude.{List, [], ◌∷◌, ◌++◌, ℕ, length, eqb, ltb}
+use Rattle.std.specs.Prelude.{Option, None, Some, Result, Ok, Err}
 use Rattle.laws.specs.Pick.{pick}
 use Rattle.laws.specs.Text.{ascii, same}
 use Rattle.texts.specs.Hex.{hex_of}
 use Rattle.texts.specs.Number.{numeral_of}
 use Rattle.texts.specs.Part.{piece_of}
-use Rattle.texts.specs.declared.hex.Read.{Read}
-use Rattle.texts.specs.declared.hex.Read.TheVariants.{Bytes, NoDigit, Odd, TooLong}
+use Rattle.texts.specs.declared.hex.HexError.{HexError}
+use Rattle.texts.specs.declared.hex.HexError.TheVariants.{NoDigit, Odd, TooLong}
 
 -- the word of a command: 0 `Ax25`, 1 `Ax25Long`, 2 `Generic`
 unfoldable pub word_of : ℕ → List ℕ
@@ -19,6 +20,10 @@ command_of w =
     pick (same w (ascii "ax25")) 0
     (pick (same w (ascii "long")) 1
     (pick (same w (ascii "generic")) 2 3))
+
+-- the same, none where it is none
+unfoldable pub named_of : List ℕ → Option ℕ
+named_of w = pick (ltb 2 (command_of w)) None (Some (command_of w))
 
 -- a blank and the digits of bytes, where there are any
 unfoldable pub digits_of : List ℕ → List ℕ
@@ -44,19 +49,21 @@ refusal_line n = numbered_line (ascii "refused ") n (reason_of n)
 unfoldable pub error_line : ℕ → List ℕ → List ℕ
 error_line number what = numbered_line (ascii "error: line ") number what
 
+-- what is wrong with a text that spells no bytes
+unfoldable pub fault_of : HexError → List ℕ
+fault_of NoDigit = ascii "no hexadecimal digit"
+fault_of Odd = ascii "an odd number of digits"
+fault_of TooLong = ascii "too long"
+
 -- the error of a text that spells no bytes
-unfoldable pub unread_line : ℕ → Read → List ℕ
-unread_line number (Bytes n) = []
-unread_line number NoDigit = error_line number (ascii "no hexadecimal digit")
-unread_line number Odd = error_line number (ascii "an odd number of digits")
-unread_line number TooLong = error_line number (ascii "too long")
+unfoldable pub unread_line : ℕ → Result ℕ HexError → List ℕ
+unread_line number (Ok n) = []
+unread_line number (Err e) = error_line number (fault_of e)
 
 -- what is said where a text spells bytes, or the error
-unfoldable pub read_or : ℕ → List ℕ → Read → List ℕ
-read_or number text (Bytes n) = text
-read_or number text NoDigit = unread_line number NoDigit
-read_or number text Odd = unread_line number Odd
-read_or number text TooLong = unread_line number TooLong
+unfoldable pub read_or : ℕ → List ℕ → Result ℕ HexError → List ℕ
+read_or number text (Ok n) = text
+read_or number text (Err e) = unread_line number (Err e)
 
 -- the longest line
 abbrev pub line_room : ℕ

@@ -1,16 +1,15 @@
 // Bytes in hexadecimal, two digits each: written in capitals, read in capitals and small letters.
-ghost use Rattle.std.specs.Prelude.{◌≡◌, true, ◌*◌, ◌^◌, ◌≤◌, ◌<◌, length};
+ghost use Rattle.std.specs.Prelude.{◌≡◌, true, ◌*◌, ◌^◌, ◌<◌, length, slice_index};
 ghost use Rattle.laws.specs.Wrote.{Wrote};
-ghost use Rattle.texts.specs.Hex.{digit_of, hex_byte, hex_of, hex_value, is_hex, bytes_of, read_of, left_by};
+ghost use Rattle.texts.specs.Hex.{digit_of, hex_byte, hex_of, hex_value, digit_value, is_hex, bytes_of, read_of, left_by};
 
 use bits_write::byte;
 
 const DIGITS: [u8; 16] = *b"0123456789ABCDEF";
 
-// What a text spells: so many bytes, or what is wrong with it.
-#[derive(Clone, Copy)]
-pub enum Read {
-    Bytes(usize),
+// What is wrong with a text that spells no bytes.
+#[derive(Clone, Copy, Debug, PartialEq, Eq)]
+pub enum HexError {
     NoDigit,
     Odd,
     TooLong,
@@ -39,23 +38,21 @@ pub fn put_hex(out: &mut [u8], at: usize, s: &[u8]) -> usize
     ensures { Wrote out.old at (hex_of s.now) out.new result }
 {
     let mut next = at;
-    let mut i = 0;
-    while i < s.len() {
-        next = put_byte(out, next, s[i]);
-        i += 1;
+    for x in s {
+        next = put_byte(out, next, *x);
     }
     next
 }
 
-// The value of a digit, or 16 where it is none.
-fn digit(c: u8) -> u8
-    ensures { (result ≡ hex_value c) × (result ≤ 16) }
+// The value of a digit.
+fn digit(c: u8) -> Option<u8>
+    ensures { result ≡ digit_value c }
 {
     match c {
-        48..=57 => c - 48,
-        65..=70 => c - 55,
-        97..=102 => c - 87,
-        _ => 16,
+        b'0'..=b'9' => Some(c - b'0'),
+        b'A'..=b'F' => Some(c - b'A' + 10),
+        b'a'..=b'f' => Some(c - b'a' + 10),
+        _ => None,
     }
 }
 
@@ -63,14 +60,15 @@ fn digit(c: u8) -> u8
 fn is_hex(text: &[u8]) -> bool
     ensures { result ≡ is_hex text.now }
 {
-    let mut i = 0;
-    while i < text.len() {
-        if 15 < digit(text[i]) {
-            return false;
-        }
-        i += 1;
-    }
-    true
+    text.iter().all(|c| digit(*c).is_some())
+}
+
+// The value of digit i of a text of digits.
+fn value_at(text: &[u8], i: usize) -> u8
+    requires { (is_hex text.now ≡ true) × (i < length text.now) }
+    ensures { (result ≡ hex_value (slice_index text.now i)) × (result < 16) }
+{
+    digit(text[i]).unwrap()
 }
 
 // The bytes that pairs of digits spell, at the front of `out`.
@@ -78,29 +76,29 @@ fn pairs(text: &[u8], n: usize, out: &mut [u8])
     requires { (is_hex text.now ≡ true) × (length text.now ≡ n * 2) × (n < 2 ^ 62) }
     ensures { Wrote out.old 0 (bytes_of text.now) out.new n }
 {
-    let mut i = 0;
-    while i < n {
-        let high = digit(text[i * 2]);
-        let low = digit(text[i * 2 + 1]);
-        byte(out, i, high * 16 + low);
-        i += 1;
+    for i in 0..n {
+        byte(
+            out,
+            i,
+            value_at(text, i * 2) * 16 + value_at(text, i * 2 + 1),
+        );
     }
 }
 
-// Puts the bytes that a text spells at the front of `out`. Where something is wrong `out` is as before.
-pub fn read_hex(text: &[u8], out: &mut [u8]) -> Read
+// Puts the bytes that a text spells at the front of `out`: how many. Where something is wrong `out` is as before.
+pub fn read_hex(text: &[u8], out: &mut [u8]) -> Result<usize, HexError>
     ensures { (result ≡ read_of (length out.old) text.now) × (out.new ≡ left_by result text.now out.old) }
 {
     if !is_hex(text) {
-        return Read::NoDigit;
+        return Err(HexError::NoDigit);
     }
     if text.len() % 2 == 1 {
-        return Read::Odd;
+        return Err(HexError::Odd);
     }
     let n = text.len() / 2;
     if out.len() < n {
-        return Read::TooLong;
+        return Err(HexError::TooLong);
     }
     pairs(text, n, out);
-    Read::Bytes(n)
+    Ok(n)
 }

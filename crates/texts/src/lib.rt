@@ -6,3 +6,4 @@ pub mod number;
 pub mod part;
 pub mod say;
 pub mod show;
+pub mod space;

@@ -1,46 +1,74 @@
 // What is said of a line: the words of commands, the reasons of refusals, errors.
 ghost use Rattle.std.specs.Prelude.{◌≡◌, ◌^◌, ◌<◌, length};
 ghost use Rattle.laws.specs.Wrote.{Wrote};
-ghost use Rattle.texts.specs.Say.{word_of, command_of, numbered_line, refusal_line, error_line, unread_line};
+ghost use Rattle.texts.specs.Say.{word_of, reason_of, named_of, numbered_line, refusal_line, error_line, fault_of, unread_line};
 
-use crate::hex::Read;
+use crate::hex::HexError;
 use crate::number::put_number;
-use crate::part::piece;
 use bits_write::{byte, copy};
 
-// The commands by name, in order.
-const WORDS: [u8; 17] = *b"ax25|long|generic";
+// The word of a command, by its number; empty where it has none.
+fn word(command: u8) -> &'static [u8]
+    ensures { result.now ≡ word_of command }
+{
+    match command {
+        0 => b"ax25",
+        1 => b"long",
+        2 => b"generic",
+        _ => b"",
+    }
+}
 
-// The refusals of documents 01 and 02 by number, in order, from 0 on, which is none. A number without a refusal has no reason.
-const REASONS: [u8; 502] =
-    *b"|unknown command|data over 4,999 bytes or message over 5,000|frame too short|bad call|bad format|output too short\
-|message cannot be decoded|field not 3 to 512|mask not the top 1 to 7 bits of a byte|empty message|first byte 0x80 or more\
-|too many fragments for the mask|no such fragment|fragment empty or over the field|marker 0x14\
-|reply over 3 or hint over 7|store or state out of bounds|||name not 1 to 8 bytes or not kept|eight states are kept already\
-||||||a tally is already the largest 64-bit number";
+// The reason of a refusal of documents 01 and 02, by its number; empty where it has none.
+fn reason(n: u8) -> &'static [u8]
+    ensures { result.now ≡ reason_of n }
+{
+    match n {
+        1 => b"unknown command",
+        2 => b"data over 4,999 bytes or message over 5,000",
+        3 => b"frame too short",
+        4 => b"bad call",
+        5 => b"bad format",
+        6 => b"output too short",
+        7 => b"message cannot be decoded",
+        8 => b"field not 3 to 512",
+        9 => b"mask not the top 1 to 7 bits of a byte",
+        10 => b"empty message",
+        11 => b"first byte 0x80 or more",
+        12 => b"too many fragments for the mask",
+        13 => b"no such fragment",
+        14 => b"fragment empty or over the field",
+        15 => b"marker 0x14",
+        16 => b"reply over 3 or hint over 7",
+        17 => b"store or state out of bounds",
+        20 => b"name not 1 to 8 bytes or not kept",
+        21 => b"eight states are kept already",
+        27 => b"a tally is already the largest 64-bit number",
+        _ => b"",
+    }
+}
 
 // The word of a command. The next place.
 pub fn put_word(out: &mut [u8], at: usize, command: u8) -> usize
     requires { at < 2 ^ 60 }
     ensures { Wrote out.old at (word_of command) out.new result }
 {
-    copy(out, at, piece(&WORDS, command as usize, b'|'))
+    copy(out, at, word(command))
 }
 
-// The command of a word, or 3 where it is none.
-pub fn command_of(word: &[u8]) -> u8
-    ensures { result ≡ command_of word.now }
+// The command that a word names.
+pub fn command_of(word: &[u8]) -> Option<u8>
+    ensures { result ≡ named_of word.now }
 {
-    if check::same(word, b"ax25") {
-        return 0;
+    if word == b"ax25".as_slice() {
+        Some(0)
+    } else if word == b"long".as_slice() {
+        Some(1)
+    } else if word == b"generic".as_slice() {
+        Some(2)
+    } else {
+        None
     }
-    if check::same(word, b"long") {
-        return 1;
-    }
-    if check::same(word, b"generic") {
-        return 2;
-    }
-    3
 }
 
 // A line of an opening, a number, a colon and a text. The next place.
@@ -60,13 +88,7 @@ pub fn put_refusal(out: &mut [u8], at: usize, n: u8) -> usize
     requires { at < 2 ^ 60 }
     ensures { Wrote out.old at (refusal_line n) out.new result }
 {
-    put_line(
-        out,
-        at,
-        b"refused ",
-        n as u64,
-        piece(&REASONS, n as usize, b'|'),
-    )
+    put_line(out, at, b"refused ", u64::from(n), reason(n))
 }
 
 // The line of an error in line `number`. The next place.
@@ -77,15 +99,24 @@ pub fn put_error(out: &mut [u8], at: usize, number: u64, what: &[u8]) -> usize
     put_line(out, at, b"error: line ", number, what)
 }
 
-// The error of a text that spells no bytes. The next place.
-pub fn put_unread(out: &mut [u8], at: usize, number: u64, read: Read) -> usize
+// What is wrong with a text that spells no bytes, in words.
+fn fault(error: HexError) -> &'static [u8]
+    ensures { result.now ≡ fault_of error }
+{
+    match error {
+        HexError::NoDigit => b"no hexadecimal digit",
+        HexError::Odd => b"an odd number of digits",
+        HexError::TooLong => b"too long",
+    }
+}
+
+// The error of a text that spells no bytes; nothing where it spells some. The next place.
+pub fn put_unread(out: &mut [u8], at: usize, number: u64, read: Result<usize, HexError>) -> usize
     requires { at < 2 ^ 60 }
     ensures { Wrote out.old at (unread_line number read) out.new result }
 {
     match read {
-        Read::NoDigit => put_error(out, at, number, b"no hexadecimal digit"),
-        Read::Odd => put_error(out, at, number, b"an odd number of digits"),
-        Read::TooLong => put_error(out, at, number, b"too long"),
-        Read::Bytes(_) => at,
+        Ok(_) => at,
+        Err(error) => put_error(out, at, number, fault(error)),
     }
 }

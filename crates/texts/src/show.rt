@@ -19,18 +19,14 @@ fn put_number(out: &mut [u8], at: usize, x: u8) -> usize
 }
 
 // A byte of 20 to 7E as it is, any other by its digits. The next place.
-#[tactic(auto, using(crate::proofs::ShowLaws::shown_high))]
 fn put_one(out: &mut [u8], at: usize, x: u8) -> usize
     requires { at < 2 ^ 60 }
     ensures { Wrote out.old at (shown_byte x) out.new result }
 {
-    if x < 0x20 {
-        return put_number(out, at, x);
+    match x {
+        0x20..=0x7E => byte(out, at, x),
+        _ => put_number(out, at, x),
     }
-    if 0x7E < x {
-        return put_number(out, at, x);
-    }
-    byte(out, at, x)
 }
 
 // Bytes as they are shown. The next place.
@@ -39,10 +35,8 @@ pub fn put_shown(out: &mut [u8], at: usize, s: &[u8]) -> usize
     ensures { Wrote out.old at (shown s.now) out.new result }
 {
     let mut next = at;
-    let mut i = 0;
-    while i < s.len() {
-        next = put_one(out, next, s[i]);
-        i += 1;
+    for x in s {
+        next = put_one(out, next, *x);
     }
     next
 }

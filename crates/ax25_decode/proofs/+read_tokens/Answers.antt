@@ -27,12 +27,13 @@ read_address-requires t c =
     let pre = c.requires in
     (pre.0, pre.1, pre.2, omega (arith, pre.4))
 
-pub returns-in_default : goal.returns-in_default
-returns-in_default t c =
+pub returns-in_err-p : goal.returns-in_err-p
+returns-in_err-p t c =
     let a = c.args in
     let b = unpack a.s.now in
-    tokens_none a.mended a.l a.n a.k b (drop a.at b) c.if-n-eq0.false
-    (untaken (field_of a.l c.bit.result (eqb a.n 1)) b (read_token a.mended a.l (drop a.at b)) _ a.to _ _ c.read_address.ensures c.in_default.is)
+    rw c.from_residual.ensures
+    (tokens_none a.mended a.l a.n a.k b (drop a.at b) c.if-n-eq0.false
+    (untaken (field_of a.l c.bit.result (eqb a.n 1)) b (read_token a.mended a.l (drop a.at b)) _ a.to _ _ c.read_address.ensures c.in_err-p.was))
 
 pub overflow_sub-n : goal.overflow_sub-n
 overflow_sub-n t c = omega (arith, c.if-n-eq0.false)
@@ -45,7 +46,7 @@ read_tokens-requires t c =
     let pre = c.requires in
     let a = c.args in
     let b = unpack a.s.now in
-    let t = took (field_of a.l c.bit.result (eqb a.n 1)) b (read_token a.mended a.l (drop a.at b)) _ a.to _ _ c.read_address.ensures _ _ c.in-Next.is in
+    let t = took (field_of a.l c.bit.result (eqb a.n 1)) b (read_token a.mended a.l (drop a.at b)) _ a.to _ _ c.read_address.ensures _ _ c.in_ok-p.was in
     let more = c.if-n-eq0.false in
     (omega (arith, more), (pre.0, pre.1, pre.2, omega (arith, pre.3, more), omega (arith, pre.4, more, pre.2, place_next a.l c.bit.result (eqb a.n 1) t)))
 
@@ -54,6 +55,6 @@ returns t c =
     let a = c.args in
     let b = unpack a.s.now in
     let h = c.bit in
-    let t = took (field_of a.l h.result (eqb a.n 1)) b (read_token a.mended a.l (drop a.at b)) _ a.to _ _ c.read_address.ensures _ _ c.in-Next.is in
+    let t = took (field_of a.l h.result (eqb a.n 1)) b (read_token a.mended a.l (drop a.at b)) _ a.to _ _ c.read_address.ensures _ _ c.in_ok-p.was in
     let rest = c.read_tokens in
     tokens_more a.mended a.l a.n a.k b (drop a.at b) c.if-n-eq0.false h.result h.ensures _ _ a.to _ _ t rest.new.out rest.result rest.ensures

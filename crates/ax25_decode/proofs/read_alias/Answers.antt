@@ -9,26 +9,27 @@ use Rattle.ax25_decode.proofs.ReaderLaws.{alias_short, alias_zero, alias_past, a
 use borrow.Author.Rules.{rules}
 use Rattle.ax25_decode.proofs.read_alias.Goals as goal
 
-pub returns-in_default : goal.returns-in_default
-returns-in_default c = λ at h.
+pub returns-in_err-i : goal.returns-in_err-i
+returns-in_err-i c = λ at h.
     let a = c.args in
     let b = unpack a.s.now in
-    alias_short a.l a.n (drop at b) (told_short b at 3 (sym h ∙ c.in_default.is))
+    rw c.from_residual.ensures
+    (alias_short a.l a.n (drop at b) (told_short b at 3 (sym h ∙ c.in_err-i.was)))
 
 pub returns-then-i-eq0 : goal.returns-then-i-eq0
 returns-then-i-eq0 c = λ at h.
     let a = c.args in
     let b = unpack a.s.now in
-    alias_zero a.l a.n (drop at b) _ _ (told_bits b at 3 _ _ (sym h ∙ c.in-Bits.is)) c.if-i-eq0.true
+    alias_zero a.l a.n (drop at b) _ _ (told_bits b at 3 _ _ (sym h ∙ c.in_ok-i.was)) c.if-i-eq0.true
 
 pub returns-then-i-gt5 : goal.returns-then-i-gt5
 returns-then-i-gt5 c = λ at h.
     let a = c.args in
     let b = unpack a.s.now in
-    alias_past a.l a.n (drop at b) _ _ (told_bits b at 3 _ _ (sym h ∙ c.in-Bits.is)) c.if-i-gt5.true
+    alias_past a.l a.n (drop at b) _ _ (told_bits b at 3 _ _ (sym h ∙ c.in_ok-i.was)) c.if-i-gt5.true
 
 pub returns : goal.returns
 returns c = λ at h.
     let a = c.args in
     let b = unpack a.s.now in
-    alias_read a.l a.n (drop at b) b _ _ (told_bits b at 3 _ _ (sym h ∙ c.in-Bits.is)) c.if-i-eq0.false (omega (arith, c.if-i-gt5.false)) _ _ a.to _ c.put_alias.ensures
+    alias_read a.l a.n (drop at b) b _ _ (told_bits b at 3 _ _ (sym h ∙ c.in_ok-i.was)) c.if-i-eq0.false (omega (arith, c.if-i-gt5.false)) _ _ a.to _ c.put_alias.ensures

@@ -1,6 +1,5 @@
 -- `ax25_token::letter` meets its contract.
 -- Assumes nothing.
-use borrow.Author.Rules.{rules}
 use Rattle.ax25_token.proofs.letter.Goals as goal
 
 pub returns : goal.returns

@@ -1,6 +1,5 @@
 -- `ax25_token::pair_at` meets its contract, by the reading.
 -- Assumes nothing.
-use borrow.Author.Rules.{rules}
 use mathlib.Core.Path.{◌∙◌}
 use Rattle.ax25_token.proofs.ReaderWays.{took_binary, took_digits}
 use Rattle.ax25_token.proofs.pair_at.Goals as goal

@@ -1,6 +1,5 @@
 -- `ax25_token::two_digits` meets its contract.
 -- Assumes nothing.
-use borrow.Author.Rules.{rules}
 use native.Mathlib.Omega.{arith}
 use Rattle.ax25_token.proofs.CallLaws.{append_digits}
 use Rattle.ax25_token.proofs.two_digits.Goals as goal

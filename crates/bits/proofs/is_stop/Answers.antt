@@ -1,18 +1,15 @@
 -- `bits::is_stop` meets its contract.
 -- Assumes nothing.
-use borrow.Author.Tests.{eq-eqb, ne_eqb, lt-ltb, le-ltb}
+use borrow.Author.Rules.{rules}
+use borrow.Author.Tests.{eq-eqb, ne_eqb}
 use Rattle.laws.specs.Pick.{pick}
 use Rattle.bits.specs.Val.{stops}
 use Rattle.bits.proofs.is_stop.Goals as goal
 
-pub returns-then-c-eq32 : goal.returns-then-c-eq32
+pub returns-then-c-ne32 : goal.returns-then-c-ne32
 unfolding stops pick
-returns-then-c-eq32 c = simp (eq-eqb _ _ c.if-c-eq32.true)
+returns-then-c-ne32 c = simp (ne_eqb _ _ c.if-c-ne32.true) (search rules)
 
-pub returns-then-c-lt48 : goal.returns-then-c-lt48
+pub returns-else-c-ne32 : goal.returns-else-c-ne32
 unfolding stops pick
-returns-then-c-lt48 c = simp (ne_eqb _ _ c.if-c-eq32.false, lt-ltb _ _ c.if-c-lt48.true)
-
-pub returns : goal.returns
-unfolding stops pick
-returns c = simp (ne_eqb _ _ c.if-c-eq32.false, le-ltb _ _ c.if-c-lt48.false)
+returns-else-c-ne32 c = simp (eq-eqb _ _ c.if-c-ne32.false)

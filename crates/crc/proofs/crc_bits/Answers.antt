@@ -1,6 +1,5 @@
 -- `crc::crc_bits` meets its contract.
 -- Assumes nothing.
-use borrow.Author.Rules.{rules}
 use Rattle.crc.specs.Crc.{crc_bits}
 use Rattle.crc.proofs.crc_bits.Goals as goal
 

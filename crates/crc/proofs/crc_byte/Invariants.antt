@@ -1,16 +1,10 @@
--- `crc::crc_byte` meets its contract. The loop has made the first i of eight steps.
+-- `crc::crc_byte` meets its contract: so many of the eight steps are made.
 -- Assumes nothing.
-use mathlib.Core.Path.{◌≡◌, refl, sym, ap, ◌∙◌}
-use Prim.Native.Nat.{ℕ, ◌-◌, ◌*◌, ◌≤◌}
-use native.Mathlib.Omega.{arith}
-use native.Mathlib.Numerals.{add-one}
-use borrow.Author.Rules.{rules}
+use mathlib.Core.Path.{◌≡◌}
+use Prim.Native.Nat.{◌*◌}
 use lib.Bits.{bit_xor}
-use Rattle.crc.specs.Crc.{crc_bit, crc_steps, crc_byte}
+use Rattle.crc.specs.Crc.{crc_steps}
 use Rattle.crc.proofs.crc_byte.Given as goal
 
-abbrev pub invariant-loop-i : goal.invariant-loop-i
-invariant-loop-i l = (l.i ≤ 8) × (l.x ≡ crc_steps l.i (bit_xor l.c (l.b * 256)))
-
-abbrev pub decreases-loop-i : goal.decreases-loop-i
-decreases-loop-i l = 8 - l.i
+abbrev pub invariant-loop : goal.invariant-loop
+invariant-loop l = l.x ≡ crc_steps l.counter (bit_xor l.c (l.b * 256))

@@ -1,51 +1,36 @@
--- `crc::crc_folded` meets its contract. The window stands for the first i bytes.
+-- `crc::crc_folded` meets its contract: the blocks that are left come after those that the window stands for.
 -- Assumes nothing.
-use mathlib.Core.Path.{◌≡◌, sym, ap, ◌∙◌}
-use Prim.Native.Nat.{ℕ, ◌-◌, ◌/◌, ◌*◌, ◌%◌, ◌≤◌}
+use mathlib.Core.Path.{sym, ap, ap₂, ◌∙◌}
+use Prim.Native.Nat.{ℕ}
 use native.Mathlib.Omega.{arith}
-use borrow.Author.Rules.{rules}
-use lib.ListN.{length, take, drop}
-use Rattle.crc.specs.Crc.{start, crc_from}
-use Rattle.crc.specs.Fold.{Window, held}
-use Rattle.crc.proofs.LinearLaws.{from_more}
+use Rattle.std.specs.Slice.Iter.{chunks_exact_rest, chunks_exact_size}
+use Rattle.crc.specs.Crc.{crc_from}
+use Rattle.crc.specs.Fold.{held}
+use Rattle.crc.proofs.LinearLaws.{blocks_of, blocks_on, blocks_end}
 use Rattle.crc.proofs.FoldLaws.{window_first}
 use Rattle.crc.proofs.crc_folded.Goals as goal
 
-pub bounds-w-0 : goal.bounds-w-0
-bounds-w-0 c = omega arith
-
-pub bounds-w-1 : goal.bounds-w-1
-bounds-w-1 c = omega arith
-
-pub loop-i-init : goal.loop-i-init
+pub loop-block-init : goal.loop-block-init
 unfolding crc_from
-loop-i-init c = (omega arith, omega arith, window_first)
+loop-block-init c =
+    let it = c.into_iter-block-iterator.ensures.into_iter_gives in
+    (ap chunks_exact_size it ∙ c.chunks_exact-block-items.ensures.size, window_first.0, ap₂ blocks_of window_first.1 (ap chunks_exact_rest it ∙ c.chunks_exact-block-items.ensures.rest))
 
-pub overflow_sub-data : goal.overflow_sub-data
-overflow_sub-data c = omega arith
-
-pub fold-w-requires : goal.fold-w-requires
-fold-w-requires c = (omega arith, c.loop-i.invariant.2.0)
-
-pub overflow_add-i : goal.overflow_add-i
-overflow_add-i c = omega arith
-
-pub loop-i-smaller : goal.loop-i-smaller
-loop-i-smaller c = omega arith
-
-pub loop-i-preserved : goal.loop-i-preserved
-loop-i-preserved c =
-    let l = c.args.«data».now in
-    (omega arith, omega arith, (c.fold-w.ensures.1, c.fold-w.ensures.0 ∙ ap (λ (x : ℕ). crc_from x (take 128 (drop c.loop-i.i l))) c.loop-i.invariant.2.1 ∙ sym (from_more start c.loop-i.i 128 l)))
-
-pub slice_bounds-crc_window-end : goal.slice_bounds-crc_window-end
-slice_bounds-crc_window-end c = omega arith
-
-pub crc_window-requires : goal.crc_window-requires
-crc_window-requires c = (search rules, c.loop-i.invariant.2.0.0)
+pub loop-block-preserved : goal.loop-block-preserved
+loop-block-preserved c =
+    let s = c.in-Some.ensures.steps in
+    let known = c.loop-block.invariant in (
+      s.0 ∙ known.0,
+      c.fold-w.ensures.1,
+      ap (λ (x : ℕ). blocks_of x (chunks_exact_rest c.next.new.self)) c.fold-w.ensures.0
+          ∙ sym (blocks_on (held c.loop-block.w) _ _ _ s.1.0 (s.1.1 ∙ known.0))
+          ∙ known.2,
+    )
 
 pub returns : goal.returns
 returns c =
-    let l = c.args.«data».now in
-    let e : c.loop-i.i ≡ length l / 128 * 128 = omega arith in
-    rw (c.crc_window.ensures, ← e) c.loop-i.invariant.2.1
+    let s = c.in-None.ensures.steps in
+    let known = c.loop-block.invariant in
+    c.crc_window.ensures
+    ∙ sym (blocks_end (held c.loop-block.w) (chunks_exact_rest c.loop-block.block-iterator) (omega (arith, s.1.0, known.0)))
+    ∙ known.2

@@ -1,18 +1,11 @@
--- `crc::crc_folded` meets its contract. The window stands for the first i bytes.
+-- `crc::crc_folded` meets its contract: the blocks that are left come after those that the window stands for.
 -- Assumes nothing.
-use mathlib.Core.Path.{◌≡◌, sym, ap, ◌∙◌}
-use Prim.Native.Nat.{ℕ, ◌-◌, ◌/◌, ◌*◌, ◌%◌, ◌≤◌}
-use native.Mathlib.Omega.{arith}
-use borrow.Author.Rules.{rules}
-use lib.ListN.{length, take, drop}
-use Rattle.crc.specs.Crc.{start, crc_from}
+use mathlib.Core.Path.{◌≡◌}
+use Rattle.std.specs.Slice.Iter.{chunks_exact_rest, chunks_exact_size}
+use Rattle.crc.specs.Crc.{start}
 use Rattle.crc.specs.Fold.{Window, held}
-use Rattle.crc.proofs.LinearLaws.{from_more}
-use Rattle.crc.proofs.FoldLaws.{window_first}
+use Rattle.crc.proofs.LinearLaws.{blocks_of}
 use Rattle.crc.proofs.crc_folded.Given as goal
 
-abbrev pub invariant-loop-i : goal.invariant-loop-i
-invariant-loop-i l = (l.i ≤ length l.«data») × (l.i % 128 ≡ 0) × (Window l.w × (held l.w ≡ crc_from start (take l.i l.«data»)))
-
-abbrev pub decreases-loop-i : goal.decreases-loop-i
-decreases-loop-i l = length l.«data» - l.i
+abbrev pub invariant-loop-block : goal.invariant-loop-block
+invariant-loop-block l = (chunks_exact_size l.block-iterator ≡ 128) × Window l.w × (blocks_of (held l.w) (chunks_exact_rest l.block-iterator) ≡ blocks_of start l.«data»)

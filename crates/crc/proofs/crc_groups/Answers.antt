@@ -7,7 +7,6 @@ use lib.ListN.{length, take, drop, length-drop}
 use Rattle.laws.proofs.ListLaws.{from_place}
 use Rattle.crc.specs.Crc.{start, crc_from}
 use Rattle.crc.proofs.LinearLaws.{from_more}
-use borrow.Author.Rules.{rules}
 use Rattle.crc.proofs.crc_groups.Goals as goal
 
 pub returns : goal.returns

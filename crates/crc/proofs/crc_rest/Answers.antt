@@ -1,29 +1,24 @@
--- `crc::crc_rest` meets its contract.
+-- `crc::crc_rest` meets its contract: the groups that are left come after those that are in.
 -- Assumes nothing.
-use mathlib.Core.Path.{◌≡◌, refl}
-use Prim.Native.Nat.{◌-◌, ◌*◌, ◌/◌}
+use mathlib.Core.Path.{sym, ap, ◌∙◌}
+use Prim.Native.Nat.{ℕ}
 use native.Mathlib.Omega.{arith}
-use borrow.Author.Rules.{rules}
-use lib.ListN.{length}
-use Rattle.crc.specs.Crc.{crc_from}
-use Rattle.crc.proofs.LinearLaws.{Through, through_on}
+use Rattle.std.specs.Slice.Iter.{chunks_exact_rest}
+use Rattle.crc.proofs.LinearLaws.{eights_of, eights_on, eights_end}
 use Rattle.crc.proofs.crc_rest.Goals as goal
 
-pub loop-i-init : goal.loop-i-init
-unfolding crc_from
-loop-i-init c = (omega arith, omega arith, refl)
-
-pub crc_eight-c-requires : goal.crc_eight-c-requires
-crc_eight-c-requires c = (search rules, search rules)
-
-pub loop-i-preserved : goal.loop-i-preserved
-loop-i-preserved c =
-    let a = c.args in
-    let l = a.«data».now in
-    through_on a.before l (length l) c.loop-i.i c.loop-i.c c.crc_eight-c.result c.loop-i.invariant (omega arith) c.crc_eight-c.ensures
+pub loop-eight-preserved : goal.loop-eight-preserved
+loop-eight-preserved c =
+    let s = c.in-Some.ensures.steps in
+    let known = c.loop-eight.invariant in (
+      s.0 ∙ known.0,
+      ap (λ (x : ℕ). eights_of x (chunks_exact_rest c.next.new.self)) c.crc_eight-c.ensures
+          ∙ sym (eights_on c.loop-eight.c _ _ _ s.1.0 (s.1.1 ∙ known.0))
+          ∙ known.1,
+    )
 
 pub returns : goal.returns
 returns c =
-    let l = c.args.«data».now in
-    let e : c.loop-i.i ≡ length l / 8 * 8 = omega arith in
-    rw (← e) c.loop-i.invariant.2
+    let s = c.in-None.ensures.steps in
+    let known = c.loop-eight.invariant in
+    sym (eights_end c.loop-eight.c (chunks_exact_rest c.loop-eight.eight-iterator) (omega (arith, s.1.0, known.0))) ∙ known.1

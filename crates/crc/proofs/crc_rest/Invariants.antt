@@ -1,16 +1,9 @@
--- `crc::crc_rest` meets its contract.
+-- `crc::crc_rest` meets its contract: the groups that are left come after those that are in.
 -- Assumes nothing.
-use mathlib.Core.Path.{◌≡◌, refl}
-use Prim.Native.Nat.{◌-◌, ◌*◌, ◌/◌}
-use native.Mathlib.Omega.{arith}
-use borrow.Author.Rules.{rules}
-use lib.ListN.{length}
-use Rattle.crc.specs.Crc.{crc_from}
-use Rattle.crc.proofs.LinearLaws.{Through, through_on}
+use mathlib.Core.Path.{◌≡◌}
+use Rattle.std.specs.Slice.Iter.{chunks_exact_rest, chunks_exact_size}
+use Rattle.crc.proofs.LinearLaws.{eights_of}
 use Rattle.crc.proofs.crc_rest.Given as goal
 
-abbrev pub invariant-loop-i : goal.invariant-loop-i
-invariant-loop-i l = Through l.before l.«data» (length l.«data») l.i l.c
-
-abbrev pub decreases-loop-i : goal.decreases-loop-i
-decreases-loop-i l = length l.«data» - l.i
+abbrev pub invariant-loop-eight : goal.invariant-loop-eight
+invariant-loop-eight l = (chunks_exact_size l.eight-iterator ≡ 8) × (eights_of l.c (chunks_exact_rest l.eight-iterator) ≡ eights_of l.before l.«data»)

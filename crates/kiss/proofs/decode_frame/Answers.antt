@@ -12,19 +12,19 @@ decode-requires c =
     let k = letters c.args.command l.result l.ensures in
     (search rules, k.0, k.1)
 
-pub returns-in_default : goal.returns-in_default
-returns-in_default c =
+pub returns-in_err-needed : goal.returns-in_err-needed
+returns-in_err-needed c =
     let a = c.args in
     let l = c.call_len-l in
     let d = c.decode in
-    frame_none a.mended a.command l.result _ a.message.now l.ensures a.out.now _ d.new.out d.result d.ensures c.in_default.is
+    frame_none a.mended a.command l.result _ a.message.now l.ensures a.out.now _ d.new.out d.result d.ensures c.in_err-needed.ensures.ok_part
 
 pub returns-then-out-needed : goal.returns-then-out-needed
 returns-then-out-needed c =
     let a = c.args in
     let l = c.call_len-l in
     let d = c.decode in
-    frame_short a.mended a.command l.result _ a.message.now l.ensures a.out.now _ d.new.out d.result d.ensures _ c.in-Next.is c.if-out-needed.true
+    frame_short a.mended a.command l.result _ a.message.now l.ensures a.out.now _ d.new.out d.result d.ensures _ c.in_ok-needed.ensures.ok_part c.if-out-needed.true
 
 pub decode-requires-then-room-needed : goal.decode-requires-then-room-needed
 decode-requires-then-room-needed c =
@@ -38,7 +38,7 @@ returns-then-room-needed c =
     let l = c.call_len-l in
     let d = c.decode in
     let w = c.decode-then-room-needed in
-    frame_fits a.mended a.command l.result _ a.message.now l.ensures a.out.now _ d.new.out d.result d.ensures _ c.in-Next.is c.if-out-needed.false w.new.out w.result w.ensures
+    frame_fits a.mended a.command l.result _ a.message.now l.ensures a.out.now _ d.new.out d.result d.ensures _ c.in_ok-needed.ensures.ok_part c.if-out-needed.false w.new.out w.result w.ensures
 
 pub slice_bounds-copy_all-end : goal.slice_bounds-copy_all-end
 slice_bounds-copy_all-end c =
@@ -51,4 +51,4 @@ returns c =
     let l = c.call_len-l in
     let d = c.decode in
     let w = c.copy_all in
-    frame_copied a.mended a.command l.result _ a.message.now l.ensures a.out.now _ d.new.out d.result d.ensures _ c.in-Next.is c.if-out-needed.false (omega (arith, c.if-room-needed.false)) _ w.new.out w.ensures
+    frame_copied a.mended a.command l.result _ a.message.now l.ensures a.out.now _ d.new.out d.result d.ensures _ c.in_ok-needed.ensures.ok_part c.if-out-needed.false (omega (arith, c.if-room-needed.false)) _ w.new.out w.ensures

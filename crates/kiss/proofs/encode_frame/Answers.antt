@@ -7,11 +7,11 @@ use Rattle.kiss.proofs.TellLaws.{tell_refused}
 use borrow.Author.Rules.{rules}
 use Rattle.kiss.proofs.encode_frame.Goals as goal
 
-pub returns-in_default : goal.returns-in_default
-returns-in_default c =
+pub returns-in_err-r : goal.returns-in_err-r
+returns-in_err-r c =
     let a = c.args in
-    tell_refused (λ x. x.bytes) (λ x. x.typ) a.out.now 3 (short_frame a.command a.«data».now (sym (ap found_of c.in_default.is) ∙ c.parse.ensures))
+    tell_refused (λ x. x.bytes) (λ x. x.typ) a.out.now 3 (short_frame a.command a.«data».now (sym (ap found_of c.in_err-r.ensures.ok_part) ∙ c.parse.ensures))
 
 pub encode_found-requires : goal.encode_found-requires
 encode_found-requires c =
-    (c.requires, sym (ap found_of c.in-Found.is) ∙ c.parse.ensures)
+    (c.requires, sym (ap found_of c.in_ok-r.ensures.ok_part) ∙ c.parse.ensures)

@@ -1,22 +1,21 @@
 -- `preview::preview` meets its contract.
 -- Assumes nothing.
-use mathlib.Core.Path.{sym, ap, ◌∙◌}
-use Rattle.kiss.specs.Told.{measured_of}
-use Rattle.preview.proofs.PreviewLaws.{preview_refused, preview_length}
-use borrow.Author.Rules.{rules}
+use mathlib.Core.Path.{◌∙◌}
+use Rattle.refusals.proofs.OutcomeLaws.{exit_is}
+use Rattle.preview.proofs.PreviewLaws.{preview_length, preview_refused}
 use Rattle.preview.proofs.preview.Goals as goal
+
+pub returns-in_err-length : goal.returns-in_err-length
+returns-in_err-length c =
+    let a = c.args in
+    exit_is _ _ c.from_residual.ensures.1 ∙ preview_refused a.command a.«data».now a.field a.mask _ c.in_err-length.ensures
 
 pub fitting_price-requires : goal.fitting_price-requires
 fitting_price-requires c =
     let a = c.args in
-    (preview_length a.command a.«data».now a.field a.mask _ (sym (ap measured_of c.in-Length.is) ∙ c.coded_length.ensures)).0
+    (preview_length a.command a.«data».now a.field a.mask _ c.in_ok-length.ensures).0
 
-pub returns-in-Refused : goal.returns-in-Refused
-returns-in-Refused c =
+pub returns : goal.returns
+returns c =
     let a = c.args in
-    preview_refused a.command a.«data».now a.field a.mask _ (sym (ap measured_of c.in-Refused.is) ∙ c.coded_length.ensures)
-
-pub returns-in-Length : goal.returns-in-Length
-returns-in-Length c =
-    let a = c.args in
-    c.fitting_price.ensures ∙ (preview_length a.command a.«data».now a.field a.mask _ (sym (ap measured_of c.in-Length.is) ∙ c.coded_length.ensures)).1
+    c.fitting_price.ensures ∙ (preview_length a.command a.«data».now a.field a.mask _ c.in_ok-length.ensures).1

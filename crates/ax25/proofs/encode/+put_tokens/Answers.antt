@@ -24,11 +24,11 @@ put_address-requires t c =
     let room = room_first a.l a.n (length a.f.now) c.if-n-eq0.false pre.3 in
     (omega (arith, room), pre.2, omega (arith, pre.5))
 
-pub returns-in_default : goal.returns-in_default
-returns-in_default t c =
+pub returns-in_err-p : goal.returns-in_err-p
+returns-in_err-p t c =
     let put = c.put_address in
     let a = c.args in
-    tokens_bad a.l a.n a.f.now _ a.at c.if-n-eq0.false _ _ _ c.in_default.is put.ensures
+    rw c.from_residual.ensures (tokens_bad a.l a.n a.f.now _ a.at c.if-n-eq0.false _ _ _ c.in_err-p.was put.ensures)
 
 pub slice_bounds-put_tokens-count : goal.slice_bounds-put_tokens-count
 slice_bounds-put_tokens-count t c =
@@ -50,7 +50,7 @@ put_tokens-requires t c =
     let room = room_next a.l a.n (length a.f.now) other pre.3 in
     let size = ap length (from_place a.f.now (a.l + 1)) ∙ length-drop (a.l + 1) a.f.now in
     let put = c.put_address in
-    let p = address_room a.l pre.1 pre.2 _ a.at _ _ _ c.in-Next.is false a.f.now put.ensures in
+    let p = address_room a.l pre.1 pre.2 _ a.at _ _ _ c.in_ok-p.was false a.f.now put.ensures in
     (omega (arith, other), (omega (arith, pre.0), pre.1, pre.2, omega (arith, room.1, size), omega (arith, pre.4, size), omega (arith, pre.5, p, other)))
 
 pub returns : goal.returns
@@ -58,4 +58,4 @@ returns t c =
     let rest = c.put_tokens in
     let put = c.put_address in
     let a = c.args in
-    tokens_next a.l a.n a.f.now _ a.at c.if-n-eq0.false _ _ _ _ c.in-Next.is put.ensures _ rest.ensures
+    tokens_next a.l a.n a.f.now _ a.at c.if-n-eq0.false _ _ _ _ c.in_ok-p.was put.ensures _ rest.ensures

@@ -1,12 +1,16 @@
 -- `ax25::encode::put_digis` meets its contract.
 -- Assumes nothing.
-use mathlib.Core.Path.{sym, ◌∙◌}
+use mathlib.Core.Path.{◌≡◌, sym, ap, ◌∙◌}
+use Prim.Native.Nat.{suc}
+use native.Mathlib.Omega.{arith}
+use native.Mathlib.Numerals.{add-one}
+use Rattle.ax25_address.specs.Record.{alias_number}
 use mathlib.Core.List.{map}
 use borrow.Author.Tests.{not-true, not-false}
 use Rattle.ax25_address.specs.Address.{addr_call}
 use Rattle.ax25_address.specs.Parse.{fields_of}
 use Rattle.ax25_address.proofs.AliasLaws.{digis_count}
-use Rattle.ax25.proofs.CoderLaws.{digis_none, digis_tokens, digis_aliased, digis_marked}
+use Rattle.ax25.proofs.CoderLaws.{alias_small, alias_bit, digis_none, digis_tokens, digis_aliased, digis_marked}
 use borrow.Author.Rules.{rules}
 use Rattle.ax25.proofs.encode.put_digis.Goals as goal
 
@@ -22,20 +26,26 @@ returns-then-not-ap c =
     digis_tokens a.l (map (addr_call a.l) (fields_of a.l a.n a.f.now)) (λ e. other (sym (digis_count a.l a.n a.f.now) ∙ e)) a.ap _ a.at _
     (c.if-not-ap.true) _ c.put_tokens.ensures
 
-pub returns-then-alias-gt0 : goal.returns-then-alias-gt0
-returns-then-alias-gt0 c =
+pub overflow_add-i : goal.overflow_add-i
+overflow_add-i c =
+    let a = c.args in
+    let e : alias_number a.alias ≡ suc c.in-Some.i = ap alias_number c.in-Some.is in
+    omega (arith, e, c.requires.6, alias_small (map (addr_call a.l) (fields_of a.l a.n a.f.now)))
+
+pub returns-in-Some : goal.returns-in-Some
+returns-in-Some c =
     let a = c.args in
     let other = c.if-n-eq0.false in
-    let bit = c.bit-p in
+    let e : alias_number a.alias ≡ suc c.in-Some.i = ap alias_number c.in-Some.is in
     digis_aliased a.l (map (addr_call a.l) (fields_of a.l a.n a.f.now)) (λ e. other (sym (digis_count a.l a.n a.f.now) ∙ e)) a.ap _ a.at _
-    a.alias _ _ (c.if-not-ap.false) c.requires.6 bit.ensures
-    c.if-alias-gt0.true c.push.ensures.wrote
+    (alias_number a.alias) _ _ (c.if-not-ap.false) c.requires.6 (alias_bit a.alias c.bit-p.ensures)
+    (omega (arith, e)) (rw (e, ← add-one c.in-Some.i) c.push.ensures.wrote)
 
 pub returns : goal.returns
 returns c =
     let a = c.args in
     let other = c.if-n-eq0.false in
-    let bit = c.bit-p in
+    let e : alias_number a.alias ≡ 0 = ap alias_number c.in_default.is in
     digis_marked a.l (map (addr_call a.l) (fields_of a.l a.n a.f.now)) (λ e. other (sym (digis_count a.l a.n a.f.now) ∙ e)) a.ap _ a.at _
-    a.alias _ _ (c.if-not-ap.false) c.requires.6 bit.ensures
-    c.if-alias-gt0.false _ c.put_tokens-2.ensures
+    (alias_number a.alias) _ _ (c.if-not-ap.false) c.requires.6 (alias_bit a.alias c.bit-p.ensures)
+    (omega (arith, e)) _ c.put_tokens-2.ensures

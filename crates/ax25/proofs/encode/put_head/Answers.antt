@@ -43,12 +43,13 @@ put_address-requires c =
     let at = heard_room a.l a.r.digis (from (2 * (a.l + 1)) d) _ _ 8 _ c.put_heard-at.ensures in
     (omega (arith, k.front), c.requires.1, omega (arith, at, k.few))
 
-pub returns-in_default : goal.returns-in_default
-returns-in_default c = λ p e.
+pub returns-in_err-p : goal.returns-in_err-p
+returns-in_err-p c = λ p e.
     let a = c.args in
     let d = a.frame.now in
     let k = known a.command a.l d (record_of a.r) c.requires.3 in
-    bad_dest a.command a.l d (record_of a.r) p (parts_are a.command a.l d (record_of a.r) k p e) _ _ _ _ c.in_default.is c.put_address.ensures _ 8 _
+    rw c.from_residual.ensures
+    (bad_dest a.command a.l d (record_of a.r) p (parts_are a.command a.l d (record_of a.r) k p e) _ _ _ _ c.in_err-p.was c.put_address.ensures _ 8 _)
 
 pub slice_bounds-put_address-count : goal.slice_bounds-put_address-count
 slice_bounds-put_address-count c =
@@ -70,17 +71,18 @@ put_address-requires-2 c =
     let d = a.frame.now in
     let k = known a.command a.l d (record_of a.r) c.requires.3 in
     let at = heard_room a.l a.r.digis (from (2 * (a.l + 1)) d) _ _ 8 _ c.put_heard-at.ensures in
-    let first = address_room a.l c.requires.0 c.requires.1 _ _ _ _ _ c.in-Next.is true d c.put_address.ensures in
+    let first = address_room a.l c.requires.0 c.requires.1 _ _ _ _ _ c.in_ok-p.was true d c.put_address.ensures in
     let size = ap length (from_place d (a.l + 1)) ∙ length-drop (a.l + 1) d in
     (omega (arith, k.front, size), c.requires.1, omega (arith, at, first, k.few))
 
-pub returns-in_default-put_address : goal.returns-in_default-put_address
-returns-in_default-put_address c = λ p e.
+pub returns-in_err-q : goal.returns-in_err-q
+returns-in_err-q c = λ p e.
     let a = c.args in
     let d = a.frame.now in
     let k = known a.command a.l d (record_of a.r) c.requires.3 in
-    bad_src a.command a.l d (record_of a.r) p (parts_are a.command a.l d (record_of a.r) k p e) _ _ _ _ _ c.in-Next.is c.put_address.ensures
-    _ _ c.put_address-2.ensures c.in_default-put_address.is _ 8 _
+    rw c.from_residual.ensures
+    (bad_src a.command a.l d (record_of a.r) p (parts_are a.command a.l d (record_of a.r) k p e) _ _ _ _ _ c.in_ok-p.was c.put_address.ensures
+    _ _ c.put_address-2.ensures c.in_err-q.was _ 8 _)
 
 pub slice_bounds-put_digis-count : goal.slice_bounds-put_digis-count
 slice_bounds-put_digis-count c =
@@ -102,18 +104,19 @@ put_digis-requires c =
     let d = a.frame.now in
     let k = known a.command a.l d (record_of a.r) c.requires.3 in
     let at = heard_room a.l a.r.digis (from (2 * (a.l + 1)) d) _ _ 8 _ c.put_heard-at.ensures in
-    let first = address_room a.l c.requires.0 c.requires.1 _ _ _ _ _ c.in-Next.is true d c.put_address.ensures in
-    let second = address_room a.l c.requires.0 c.requires.1 _ _ _ _ _ c.in-Next-put_address.is true (from (a.l + 1) d) c.put_address-2.ensures in
+    let first = address_room a.l c.requires.0 c.requires.1 _ _ _ _ _ c.in_ok-p.was true d c.put_address.ensures in
+    let second = address_room a.l c.requires.0 c.requires.1 _ _ _ _ _ c.in_ok-q.was true (from (a.l + 1) d) c.put_address-2.ensures in
     let size = ap length (from_place d (2 * (a.l + 1))) ∙ length-drop (2 * (a.l + 1)) d in
     (k.few, c.requires.0, c.requires.1, omega (arith, k.behind, size), omega (arith, size, c.requires.2), omega (arith, at, first, second, k.few), (parts_of a.command a.l d (record_of a.r) k).alias_is)
 
-pub returns-in_default-put_digis : goal.returns-in_default-put_digis
-returns-in_default-put_digis c = λ p e.
+pub returns-in_err-e : goal.returns-in_err-e
+returns-in_err-e c = λ p e.
     let a = c.args in
     let d = a.frame.now in
     let k = known a.command a.l d (record_of a.r) c.requires.3 in
-    bad_digis a.command a.l d (record_of a.r) p (parts_are a.command a.l d (record_of a.r) k p e) _ _ _ _ _ c.in-Next.is c.put_address.ensures
-    _ _ c.put_address-2.ensures _ c.in-Next-put_address.is _ _ c.put_digis.ensures c.in_default-put_digis.is _ 8 _
+    rw c.from_residual.ensures
+    (bad_digis a.command a.l d (record_of a.r) p (parts_are a.command a.l d (record_of a.r) k p e) _ _ _ _ _ c.in_ok-p.was c.put_address.ensures
+    _ _ c.put_address-2.ensures _ c.in_ok-q.was _ _ c.put_digis.ensures c.in_err-e.was _ 8 _)
 
 pub put_type-requires : goal.put_type-requires
 put_type-requires c =
@@ -121,9 +124,9 @@ put_type-requires c =
     let d = a.frame.now in
     let k = known a.command a.l d (record_of a.r) c.requires.3 in
     let at = heard_room a.l a.r.digis (from (2 * (a.l + 1)) d) _ _ 8 _ c.put_heard-at.ensures in
-    let first = address_room a.l c.requires.0 c.requires.1 _ _ _ _ _ c.in-Next.is true d c.put_address.ensures in
-    let second = address_room a.l c.requires.0 c.requires.1 _ _ _ _ _ c.in-Next-put_address.is true (from (a.l + 1) d) c.put_address-2.ensures in
-    let third = digis_room a.command a.l c.requires.0 c.requires.1 d (record_of a.r) k _ _ _ _ _ c.in-Next-put_digis.is c.put_digis.ensures in
+    let first = address_room a.l c.requires.0 c.requires.1 _ _ _ _ _ c.in_ok-p.was true d c.put_address.ensures in
+    let second = address_room a.l c.requires.0 c.requires.1 _ _ _ _ _ c.in_ok-q.was true (from (a.l + 1) d) c.put_address-2.ensures in
+    let third = digis_room a.command a.l c.requires.0 c.requires.1 d (record_of a.r) k _ _ _ _ _ c.in_ok-e.was c.put_digis.ensures in
     omega (arith, at, first, second, third, k.few)
 
 pub returns : goal.returns
@@ -131,5 +134,5 @@ returns c = λ p e.
     let a = c.args in
     let d = a.frame.now in
     let k = known a.command a.l d (record_of a.r) c.requires.3 in
-    head_wrote a.command a.l d (record_of a.r) p (parts_are a.command a.l d (record_of a.r) k p e) _ _ _ _ _ c.in-Next.is c.put_address.ensures
-    _ _ c.put_address-2.ensures _ c.in-Next-put_address.is _ _ c.put_digis.ensures _ c.in-Next-put_digis.is _ 8 c.put_heard-at.ensures _ _ c.put_type.ensures
+    head_wrote a.command a.l d (record_of a.r) p (parts_are a.command a.l d (record_of a.r) k p e) _ _ _ _ _ c.in_ok-p.was c.put_address.ensures
+    _ _ c.put_address-2.ensures _ c.in_ok-q.was _ _ c.put_digis.ensures _ c.in_ok-e.was _ 8 c.put_heard-at.ensures _ _ c.put_type.ensures

@@ -21,6 +21,6 @@ returns c =
     let h = c.halved-h in
     let t = c.trimmed_as-c in
     let a = c.args in (
-      field_text a.up a.l a.f.now _ _ _ _ (text_front h.result ∙ h.ensures.0) refl t.ensures.2 c.suffixed.ensures.0 (omega arith),
+      field_text a.up a.l a.f.now _ _ _ _ (text_front h.result ∙ h.ensures.0) c.from.ensures t.ensures.2 c.suffixed.ensures.0 (omega arith),
       omega (arith, c.suffixed.ensures.1, t.ensures.1),
     )

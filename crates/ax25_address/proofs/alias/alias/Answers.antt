@@ -2,6 +2,7 @@
 -- Assumes nothing.
 use borrow.Author.Rules.{rules}
 use native.Mathlib.Omega.{arith}
+use native.Mathlib.Numerals.{add-one}
 use mathlib.Core.Path.{◌≡◌, sym, ◌∙◌}
 use Prim.Native.Nat.{◌+◌, ◌-◌, ◌≤◌}
 use lib.ListN.{length, drop}
@@ -25,7 +26,7 @@ returns-then-n-eq0 c =
 pub loop-i-init : goal.loop-i-init
 loop-i-init c =
     let a = c.args in
-    (omega arith, search_all a.l a.n a.f.now c.if-n-eq0.false)
+    search_all a.l a.n a.f.now c.if-n-eq0.false
 
 pub is_path-requires : goal.is_path-requires
 is_path-requires c =
@@ -36,16 +37,16 @@ pub returns-then-is_path : goal.returns-then-is_path
 returns-then-is_path c =
     let a = c.args in
     let l = c.loop-i in
-    (sym (search_hit a.l a.n a.f.now l.i c.loop-i-test.true (sym c.is_path.ensures ∙ c.if-is_path.true)) ∙ l.invariant.1, omega arith)
+    (rw (← add-one l.i) (sym (search_hit a.l a.n a.f.now l.i c.loop-i-test.true (sym c.is_path.ensures ∙ c.if-is_path.true)) ∙ l.invariant), omega arith)
 
 pub loop-i-preserved : goal.loop-i-preserved
 loop-i-preserved c =
     let a = c.args in
     let l = c.loop-i in
-    (omega arith, sym (search_miss a.l a.n a.f.now l.i c.loop-i-test.true (sym c.is_path.ensures ∙ c.if-is_path.false)) ∙ l.invariant.1)
+    sym (search_miss a.l a.n a.f.now l.i c.loop-i-test.true (sym c.is_path.ensures ∙ c.if-is_path.false)) ∙ l.invariant
 
 pub returns : goal.returns
 returns c =
     let a = c.args in
     let l = c.loop-i in
-    (sym (search_end a.l a.n a.f.now l.i (omega arith)) ∙ l.invariant.1, omega arith)
+    (sym (search_end a.l a.n a.f.now l.i (omega arith)) ∙ l.invariant, omega arith)

@@ -12,7 +12,4 @@ use Rattle.ax25_address.proofs.AliasLaws.{room_next, digis, of_none, search_all,
 use Rattle.ax25_address.proofs.alias.alias.Given as goal
 
 abbrev pub invariant-loop-i : goal.invariant-loop-i
-invariant-loop-i l = (l.i ≤ 5) × (alias_from (l.i + 1) (drop l.i aliases) (digis l.l l.n l.f) ≡ alias_of (digis l.l l.n l.f))
-
-abbrev pub decreases-loop-i : goal.decreases-loop-i
-decreases-loop-i l = 5 - l.i
+invariant-loop-i l = alias_from (l.i + 1) (drop l.i aliases) (digis l.l l.n l.f) ≡ alias_of (digis l.l l.n l.f)

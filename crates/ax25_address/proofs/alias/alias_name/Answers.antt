@@ -1,18 +1,28 @@
 -- `ax25_address::alias::alias_name` meets its contract: each row of its table is the call of the name.
 -- Assumes nothing.
-use borrow.Author.Rules.{rules}
-use mathlib.Core.Path.{refl}
-use mathlib.Core.List.{map}
+use mathlib.Core.Path.{◌≡◌, refl}
+use mathlib.Core.List.{List, [], map}
+use Prim.Native.Nat.{ℕ, zero, suc, ◌≤◌, ◌<◌}
 use native.Mathlib.Omega.{arith}
-use lib.ListN.{length}
-use Rattle.laws.specs.Text.{same, filled}
-use Rattle.laws.proofs.TextLaws.{below}
-use Rattle.ax25_token.specs.Call.{appended}
-use Rattle.ax25_token.proofs.CallLaws.{is_row, row_is}
+use lib.ListN.{get_or}
+use Rattle.ax25_token.specs.declared.Call.{Call}
+use Rattle.ax25_token.specs.Call.{empty, appended}
 use Rattle.ax25_address.specs.Parse.{aliases}
-use Rattle.ax25_address.proofs.AliasLaws.{name_at}
 use Rattle.ax25_address.proofs.alias.alias_name.Goals as goal
 
+-- the rows
+calls : List Call
+calls = map (appended empty) aliases
+
+row_is : (i : ℕ) (d : Call) → i < 5 → (get_or calls i d ≡ appended empty (get_or aliases i [])) × ((get_or calls i d).len ≤ 4)
+unfolding calls appended aliases
+row_is zero d h = (refl, omega arith)
+row_is (suc zero) d h = (refl, omega arith)
+row_is (suc (suc zero)) d h = (refl, omega arith)
+row_is (suc (suc (suc zero))) d h = (refl, omega arith)
+row_is (suc (suc (suc (suc zero)))) d h = (refl, omega arith)
+row_is (suc (suc (suc (suc (suc i))))) d h = absurd (omega arith)
+
 pub returns : goal.returns
-unfolding below is_row name_at same appended aliases filled
-returns c = row_is name_at 4 5 (map (filled 16) aliases) (map length aliases) refl c.args.i (omega arith)
+unfolding calls appended aliases
+returns c = row_is c.args.i (record { bytes = []; len = 0 }) c.requires

@@ -10,4 +10,4 @@ use Rattle.ax25_address.proofs.alias.is_alias.Goals as goal
 pub returns : goal.returns
 returns c =
     let a = c.args in
-    c.same_call.ensures ∙ ap₂ same (c.addr_call-c.ensures.0 ∙ map_plain (addr_call a.l a.f.now)) c.alias_call-d.ensures.0
+    c.same_call.ensures ∙ ap₂ same (c.addr_call.ensures.0 ∙ map_plain (addr_call a.l a.f.now)) c.alias_call.ensures.0

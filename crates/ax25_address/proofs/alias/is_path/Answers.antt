@@ -14,12 +14,12 @@ use Rattle.ax25_address.specs.Parse.{fields_of, aliases, alias_calls, same_all}
 use Rattle.ax25_address.proofs.AliasLaws.{alias_other, alias_next, room_next}
 use Rattle.ax25_address.proofs.alias.is_path.Goals as goal
 
-pub returns-then-not-same_call : goal.returns-then-not-same_call
-returns-then-not-same_call c =
+pub returns-else-same_call : goal.returns-else-same_call
+returns-else-same_call c =
     let a = c.args in
     let r = c.same_call in
     let e = r.ensures ∙ ap₂ same c.requires.c_value.0 c.alias_call.ensures.0 in
-    alias_other a.l a.n a.i 1 a.f.now (λ z. omega (arith, c.requires.n_nonzero.0)) (sym e ∙ c.if-not-same_call.true)
+    c.if-same_call.false ∙ alias_other a.l a.n a.i 1 a.f.now (λ z. omega (arith, c.requires.n_nonzero.0)) (sym e ∙ c.if-same_call.false)
 
 pub slice_bounds-are_alias-count : goal.slice_bounds-are_alias-count
 slice_bounds-are_alias-count c =
@@ -41,11 +41,11 @@ are_alias-requires c =
     let size = ap length (from_place a.f.now (a.l + 1)) ∙ length-drop (a.l + 1) a.f.now in
     (omega (arith, pre.0, pre.1), pre.2, pre.3, omega (arith, room.1, size), omega (arith, pre.5, size))
 
-pub returns : goal.returns
-returns c =
+pub returns-then-same_call : goal.returns-then-same_call
+returns-then-same_call c =
     let a = c.args in
     let r = c.same_call in
     let e = r.ensures ∙ ap₂ same c.requires.c_value.0 c.alias_call.ensures.0 in
     c.are_alias.ensures
     ∙ ap (λ (s : List ℕ). same_all (map (addr_call a.l) (fields_of a.l (a.n - 1) s)) (alias_calls (get_or aliases a.i []) 2 (a.n - 1))) (from_place a.f.now (a.l + 1))
-    ∙ alias_next a.l a.n a.i 1 a.f.now (λ z. omega (arith, c.requires.n_nonzero.0)) (sym e ∙ c.if-not-same_call.false)
+    ∙ alias_next a.l a.n a.i 1 a.f.now (λ z. omega (arith, c.requires.n_nonzero.0)) (sym e ∙ c.if-same_call.true)

@@ -8,12 +8,6 @@ use Rattle.ax25_token.proofs.CallLaws.{text_front}
 use borrow.Author.Rules.{rules}
 use Rattle.ax25_address.proofs.call_bytes.call_bytes.Goals as goal
 
-pub slice_bounds-text_bytes-end : goal.slice_bounds-text_bytes-end
-slice_bounds-text_bytes-end c =
-    let n : length c.args.c.bytes ≡ 16 = search rules in
-    let h : c.args.c.len ≤ length c.args.c.bytes = omega (arith, n, c.requires) in
-    h
-
 pub returns : goal.returns
 returns c =
     let a = c.args in

@@ -11,29 +11,20 @@ use Rattle.ax25_address.specs.Classify.{any_high}
 use Rattle.ax25_address.proofs.ClassifyLaws.{high_end, high_at, or_high}
 use Rattle.ax25_address.proofs.classify.any_high.Goals as goal
 
-pub loop-i-init : goal.loop-i-init
-loop-i-init c = (omega arith, omega arith, refl)
+pub loop-x-init : goal.loop-x-init
+loop-x-init c = (omega arith, refl)
 
-pub bounds-d-i : goal.bounds-d-i
-bounds-d-i c = omega arith
-
-pub overflow_add-i : goal.overflow_add-i
-overflow_add-i c = omega arith
-
-pub loop-i-smaller : goal.loop-i-smaller
-loop-i-smaller c = omega arith
-
-pub loop-i-preserved : goal.loop-i-preserved
-loop-i-preserved c =
+pub loop-x-preserved : goal.loop-x-preserved
+loop-x-preserved c =
     let d = c.args.d.now in
-    let i = c.loop-i.i in
+    let i = c.loop-x.x-index in
     let x = get_or d i 0 in
-    let a = c.loop-i.all in
+    let a = c.loop-x.all in
     let lt : x < 256 = omega (arith, c.type_inv.d i) in
-    (omega arith, or_lt 8 a x c.loop-i.invariant.1 lt, rw (or_high a x c.loop-i.invariant.1 lt, or_assoc (leb 0x80 a) (leb 0x80 x) (any_high (drop (i + 1) d)), ← high_at d i (omega arith)) c.loop-i.invariant.2)
+    (or_lt 8 a x c.loop-x.invariant.0 lt, rw (or_high a x c.loop-x.invariant.0 lt, or_assoc (leb 0x80 a) (leb 0x80 x) (any_high (drop (i + 1) d)), ← high_at d i (omega arith)) c.loop-x.invariant.1)
 
 pub returns : goal.returns
 returns c =
     let d = c.args.d.now in
-    let i = c.loop-i.i in
-    sym (rw (high_end d i (omega arith), or-false) at c.loop-i.invariant.2)
+    let i = c.loop-x.x-index in
+    sym (rw (high_end d i (omega arith), or-false) at c.loop-x.invariant.1)

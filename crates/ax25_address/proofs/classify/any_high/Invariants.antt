@@ -11,8 +11,5 @@ use Rattle.ax25_address.specs.Classify.{any_high}
 use Rattle.ax25_address.proofs.ClassifyLaws.{high_end, high_at, or_high}
 use Rattle.ax25_address.proofs.classify.any_high.Given as goal
 
-abbrev pub invariant-loop-i : goal.invariant-loop-i
-invariant-loop-i l = (l.i ≤ length l.d) × (l.all < 256) × (any_high l.d ≡ (leb 0x80 l.all || any_high (drop l.i l.d)))
-
-abbrev pub decreases-loop-i : goal.decreases-loop-i
-decreases-loop-i l = length l.d - l.i
+abbrev pub invariant-loop-x : goal.invariant-loop-x
+invariant-loop-x l = (l.all < 256) × (any_high l.d ≡ (leb 0x80 l.all || any_high (drop l.x-index l.d)))

@@ -10,7 +10,7 @@ use Rattle.ax25_address.proofs.ClassifyLaws.{scan_end, scan_at, tally_le}
 use Rattle.ax25_address.proofs.classify.scan_third.Goals as goal
 
 pub loop-i-init : goal.loop-i-init
-loop-i-init c = (omega arith, omega arith, omega arith, refl)
+loop-i-init c = (omega arith, omega arith, refl)
 
 pub stops_at-requires : goal.stops_at-requires
 stops_at-requires c = omega arith
@@ -18,7 +18,7 @@ stops_at-requires c = omega arith
 pub returns-then-stops_at : goal.returns-then-stops_at
 unfolding pick
 returns-then-stops_at c =
-    rw (← c.loop-i.invariant.3, scan_at _ _ _ _ c.loop-i-test.true, ← c.stops_at.ensures, c.if-stops_at.true)
+    rw (← c.loop-i.invariant.2, scan_at _ _ _ _ c.loop-i-test.true, ← c.stops_at.ensures, c.if-stops_at.true)
 
 pub ends_at-requires : goal.ends_at-requires
 ends_at-requires c = omega arith
@@ -26,25 +26,13 @@ ends_at-requires c = omega arith
 pub returns-then-ends_at : goal.returns-then-ends_at
 unfolding pick
 returns-then-ends_at c =
-    rw (← c.loop-i.invariant.3, scan_at _ _ _ _ c.loop-i-test.true, ← c.stops_at.ensures, c.if-stops_at.false, ← c.ends_at.ensures, c.if-ends_at.true)
-
-pub bounds-d-i : goal.bounds-d-i
-bounds-d-i c = omega arith
+    rw (← c.loop-i.invariant.2, scan_at _ _ _ _ c.loop-i-test.true, ← c.stops_at.ensures, c.if-stops_at.false, ← c.ends_at.ensures, c.if-ends_at.true)
 
 pub tally-gt-requires : goal.tally-gt-requires
 tally-gt-requires c = omega arith
 
-pub bounds-d-i-in-loop-i : goal.bounds-d-i-in-loop-i
-bounds-d-i-in-loop-i c = omega arith
-
 pub tally-comma-requires : goal.tally-comma-requires
 tally-comma-requires c = omega arith
-
-pub overflow_add-i : goal.overflow_add-i
-overflow_add-i c = omega arith
-
-pub loop-i-smaller : goal.loop-i-smaller
-loop-i-smaller c = omega arith
 
 pub loop-i-preserved : goal.loop-i-preserved
 unfolding pick
@@ -52,11 +40,10 @@ loop-i-preserved c =
     let n = c.tally-gt.ensures in
     let m = c.tally-comma.ensures in
     let inv = c.loop-i.invariant in (
-      omega arith,
-      rw n (tally_le _ _ _ _ inv.1),
-      rw m (tally_le _ _ _ _ inv.2),
-      rw (← inv.3, scan_at _ _ _ _ c.loop-i-test.true, ← c.stops_at.ensures, c.if-stops_at.false, ← c.ends_at.ensures, c.if-ends_at.false, n, m),
+      rw n (tally_le _ _ _ _ inv.0),
+      rw m (tally_le _ _ _ _ inv.1 ),
+      rw (← inv.2, scan_at _ _ _ _ c.loop-i-test.true, ← c.stops_at.ensures, c.if-stops_at.false, ← c.ends_at.ensures, c.if-ends_at.false, n, m),
     )
 
 pub returns : goal.returns
-returns c = rw (← c.loop-i.invariant.3, scan_end _ _ _ _ c.loop-i-test.false)
+returns c = rw (← c.loop-i.invariant.2, scan_end _ _ _ _ c.loop-i-test.false)

@@ -10,7 +10,4 @@ use Rattle.ax25_address.proofs.ClassifyLaws.{scan_end, scan_at, tally_le}
 use Rattle.ax25_address.proofs.classify.scan_third.Given as goal
 
 abbrev pub invariant-loop-i : goal.invariant-loop-i
-invariant-loop-i l = (l.i ≤ length l.d) × (l.gt ≤ l.i) × (l.comma ≤ l.i) × (scan_third l.gt l.comma (drop l.i l.d) ≡ scan_third 0 0 l.d)
-
-abbrev pub decreases-loop-i : goal.decreases-loop-i
-decreases-loop-i l = length l.d - l.i
+invariant-loop-i l = (l.gt ≤ l.i) × (l.comma ≤ l.i) × (scan_third l.gt l.comma (drop l.i l.d) ≡ scan_third 0 0 l.d)

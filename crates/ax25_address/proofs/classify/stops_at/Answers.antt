@@ -1,24 +1,19 @@
 -- `ax25_address::classify::stops_at` meets its contract.
 -- Assumes nothing.
-use borrow.Author.Rules.{rules}
-use mathlib.Core.Path.{ap}
-use mathlib.Core.Bool.{not}
+use native.Mathlib.Omega.{arith}
 use Prim.Native.Nat.{◌+◌}
-use borrow.Author.Tests.{eq-eqb, ne_eqb}
+use Rattle.std.proofs.lemmas.Grind.{common_steps}
+use mathlib.Core.Path.{◌≡◌, ◌∙◌}
+use mathlib.Core.Bool.{Bool}
+use lib.ListN.{drop}
+use Rattle.laws.specs.Text.{ascii, starts}
 use Rattle.ax25_address.specs.Classify.{stops_at}
-use Rattle.laws.proofs.ListLaws.{from_place}
+use Rattle.ax25_address.proofs.SliceLaws.{starts_from}
 use Rattle.ax25_address.proofs.classify.stops_at.Goals as goal
 
-pub returns-then-d-i-ne44 : goal.returns-then-d-i-ne44
+pub returns-then-comma-eq0 : goal.returns-then-comma-eq0
 unfolding stops_at
-returns-then-d-i-ne44 c = rw (ne_eqb _ _ c.if-d-i-ne44.true)
-
-pub returns-then-comma-ne0 : goal.returns-then-comma-ne0
-unfolding stops_at
-returns-then-comma-ne0 c = rw (eq-eqb _ _ c.if-d-i-ne44.false, ne_eqb _ _ c.if-comma-ne0.true)
-
-pub returns : goal.returns
-unfolding stops_at
-returns c =
+returns-then-comma-eq0 c =
     let a = c.args in
-    rw (eq-eqb _ _ c.if-d-i-ne44.false, eq-eqb _ _ c.if-comma-ne0.false, ← from_place a.d.now (a.i + 1)) (ap not c.starts.ensures)
+    let h : c.starts_with.result ≡ starts (ascii "TCPIP,") (drop (a.i + 1) a.d.now) = c.starts_with.ensures.value ∙ starts_from (ascii "TCPIP,") a.d.now (a.i + 1) in
+    grind (arith, common_steps)

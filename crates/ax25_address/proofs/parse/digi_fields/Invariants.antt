@@ -10,7 +10,4 @@ use Rattle.ax25_address.proofs.DigiLaws.{end_of, end_size, end_next, end_above, 
 use Rattle.ax25_address.proofs.parse.digi_fields.Given as goal
 
 abbrev pub invariant-loop-n : goal.invariant-loop-n
-invariant-loop-n l = (l.n ≤ 8) × (end_of l.l l.n ≤ length l.frame) × (digis_from l.l l.n l.frame ≡ digis_from l.l 0 l.frame)
-
-abbrev pub decreases-loop-n : goal.decreases-loop-n
-decreases-loop-n l = 8 - l.n
+invariant-loop-n l = (end_of l.l l.n ≤ length l.frame) × (digis_from l.l l.n l.frame ≡ digis_from l.l 0 l.frame)

@@ -4,8 +4,8 @@ use borrow.Author.Rules.{rules}
 use native.Mathlib.Omega.{arith}
 use mathlib.Core.Path.{◌≡◌, refl, ap, ◌∙◌}
 use mathlib.Core.List.{List, map}
-use Prim.Native.Nat.{ℕ, ◌-◌, ◌≤◌}
-use lib.ListN.{length, take, length-set}
+use Prim.Native.Nat.{ℕ}
+use lib.ListN.{length, length-set, take}
 use lib.Seq.{take_all}
 use Rattle.ax25_token.specs.declared.Call.{Call}
 use Rattle.ax25_token.specs.Call.{empty, pushed, appended}
@@ -14,18 +14,15 @@ use Rattle.ax25_address.proofs.LetterLaws.{none_taken, letter_more}
 use Rattle.ax25_address.proofs.trim.copied.Goals as goal
 
 pub loop-i-init : goal.loop-i-init
-loop-i-init c =
-    let a = c.args in
-    (omega arith, refl, none_taken (cased_of a.up) a.s.now)
+loop-i-init c = (refl, none_taken (cased_of c.args.up) c.args.s.now)
 
 pub loop-i-preserved : goal.loop-i-preserved
 loop-i-preserved c =
     let a = c.args in
     let l = c.loop-i in
     let held : Call = record { bytes = l.bytes; len = l.i } in (
-      omega arith,
-      length-set l.bytes l.i c.cased.result ∙ l.invariant.1,
-      letter_more (cased_of a.up) a.s.now l.i (omega arith) held _ l.invariant.2 (ap (pushed held) c.cased.ensures),
+      length-set l.bytes l.i c.cased.result ∙ l.invariant.0,
+      letter_more (cased_of a.up) a.s.now l.i (omega arith) held _ l.invariant.1 (ap (pushed held) c.cased.ensures),
     )
 
 pub returns : goal.returns
@@ -33,5 +30,6 @@ returns c =
     let l = c.loop-i in
     let a = c.args in
     let s = a.s.now in
+    let n : length s ≡ l.i = omega arith in
     let all = take_all l.i s c.loop-i-test.false in
-    (l.invariant.2 ∙ ap (λ (t : List ℕ). appended empty (map (cased_of a.up) t)) all, omega arith)
+    (rw n (l.invariant.1 ∙ ap (λ (t : List ℕ). appended empty (map (cased_of a.up) t)) all), omega arith)

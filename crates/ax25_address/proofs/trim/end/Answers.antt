@@ -4,17 +4,17 @@ use native.Mathlib.Omega.{arith}
 use borrow.Author.Rules.{rules}
 use mathlib.Core.Path.{◌≡◌, sym, ap, ◌∙◌}
 use mathlib.Core.Bool.{true, false}
-use Prim.Native.Nat.{◌-◌, ◌≤◌, suc}
-use lib.ListN.{length, take, get_or}
+use Prim.Native.Nat.{◌-◌, suc}
+use native.Mathlib.Numerals.{add-one}
+use lib.ListN.{get_or}
 use lib.Seq.{take-length}
-use borrow.Author.Tests.{not-true, not-false}
 use Rattle.laws.specs.Text.{trim_end}
 use Rattle.ax25_address.specs.Address.{white_in}
 use Rattle.ax25_address.proofs.WhiteLaws.{right_more, right_here}
 use Rattle.ax25_address.proofs.trim.end.Goals as goal
 
 pub loop-i-init : goal.loop-i-init
-loop-i-init c = (search rules, ap (trim_end (white_in c.args.call)) (take-length _))
+loop-i-init c = ap (trim_end (white_in c.args.call)) (take-length _)
 
 pub returns-then-not-is_white : goal.returns-then-not-is_white
 returns-then-not-is_white c =
@@ -23,7 +23,7 @@ returns-then-not-is_white c =
     let i = c.loop-i.i in
     let k : suc (i - 1) ≡ i = omega arith in
     let no : w (get_or s (i - 1) 0) ≡ false = sym c.is_white.ensures ∙ c.if-not-is_white.true in
-    (search rules, sym (rw k at (right_here w s (i - 1) (omega arith) no)) ∙ c.loop-i.invariant.1)
+    (omega arith, rw add-one (sym (right_here w s (i - 1) (omega arith) no) ∙ rw (sym k) at c.loop-i.invariant))
 
 pub loop-i-preserved : goal.loop-i-preserved
 loop-i-preserved c =
@@ -32,10 +32,10 @@ loop-i-preserved c =
     let i = c.loop-i.i in
     let k : suc (i - 1) ≡ i = omega arith in
     let yes : w (get_or s (i - 1) 0) ≡ true = sym c.is_white.ensures ∙ c.if-not-is_white.false in
-    (search rules, sym (rw k at (right_more w s (i - 1) (omega arith) yes)) ∙ c.loop-i.invariant.1)
+    sym (right_more w s (i - 1) (omega arith) yes) ∙ rw (sym k) at c.loop-i.invariant
 
 pub returns : goal.returns
 unfolding trim_end
 returns c =
     let none : c.loop-i.i ≡ 0 = omega arith in
-    (search rules, rw none (rw none at c.loop-i.invariant.1))
+    (omega arith, rw none at c.loop-i.invariant)

@@ -26,6 +26,6 @@ returns c =
     let u = unpack a.s.now in
     let b = drop a.at u in
     let d = c.token_decode-d in
-    let t = token_next u (read_token a.mended a.l b) d.result d.ensures.0 _ c.in-Next.is in
-    rw (message_some a.mended a.l b (text_of d.result.call) (drop c.in-Next.p u) t)
+    let t = token_next u (read_token a.mended a.l b) d.result d.ensures.0 _ c.in-Ok.is in
+    rw (message_some a.mended a.l b (text_of d.result.call) (drop c.in-Ok.p u) t)
     (reads (wrote_then c.byte-i.ensures (wrote_then c.put_filled-j.ensures.wrote (wrote_then c.byte-k.ensures c.text_decode.ensures))))

@@ -39,7 +39,7 @@ text_encode-requires c =
     let f = c.put_trimmed in
     let u = unpack a.out.now in
     let v = unpack f.new.out in
-    let g = gave u a.at v (token_bits a.l (call_of x)) f.result _ c.in-Next.is f.ensures in
+    let g = gave u a.at v (token_bits a.l (call_of x)) f.result _ c.in-Ok.is f.ensures in
     let near = gave_near a.l pre.2 pre.3 x (omega (arith, n.ensures, length-take (n.result - 0) s)) u a.at v _ g in
     rw (rest_min s 10 m.result m.ensures) (omega (arith, near, pre.0, pre.1, length-drop 10 s))
 
@@ -54,6 +54,6 @@ returns c =
     let o = token_bits a.l (call_of x) in
     let u = unpack a.out.now in
     let v = unpack f.new.out in
-    let g = gave u a.at v o f.result _ c.in-Next.is f.ensures in
+    let g = gave u a.at v o f.result _ c.in-Ok.is f.ensures in
     rw (message_is a.l s x (drop 10 s) (front_min s 9 n.result n.ensures) refl)
     (does_gave 4 o (or_refused 5 (text_bits false (drop 10 s))) u a.at _ v _ _ g (rw (rest_min s 10 m.result m.ensures) at c.text_encode.ensures))

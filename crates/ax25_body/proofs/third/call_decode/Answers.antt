@@ -27,7 +27,7 @@ returns c =
     passes _ _ _ _ _ _ _ _
     record {
       text = text_of d.result.call;
-      is = token_next u (read_token a.mended a.l (drop a.at u)) d.result d.ensures.0 _ c.in-Next.is;
+      is = token_next u (read_token a.mended a.l (drop a.at u)) d.result d.ensures.0 _ c.in-Ok.is;
       short = omega (arith, d.ensures.1, w.wrote.next_is, w.value);
       wrote = wrote_then c.copy-i.ensures w.wrote;
     }

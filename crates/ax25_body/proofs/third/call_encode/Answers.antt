@@ -22,7 +22,7 @@ slice_bounds-put_trimmed-end c =
     let a = c.args in
     let d = a.d.now in
     let r = c.collect in
-    let w = found_within 10 d r.result c.in-Found.f c.in-Found.is r.ensures.within in
+    let w = found_within 10 d r.result c.in-Some.f c.in-Some.is r.ensures.within in
     w.1
 
 pub put_trimmed-requires : goal.put_trimmed-requires
@@ -30,32 +30,32 @@ put_trimmed-requires c =
     let a = c.args in
     let d = a.d.now in
     let r = c.collect in
-    let w = found_within 10 d r.result c.in-Found.f c.in-Found.is r.ensures.within in
-    (omega (arith, w.0, length-take (c.in-Found.f.end - 0) d), search rules)
+    let w = found_within 10 d r.result c.in-Some.f c.in-Some.is r.ensures.within in
+    (omega (arith, w.0, length-take (c.in-Some.f.end - 0) d), search rules)
 
 pub returns-in_default-put_trimmed : goal.returns-in_default-put_trimmed
 returns-in_default-put_trimmed c =
     let a = c.args in
     let d = a.d.now in
     let r = c.collect in
-    let w = found_within 10 d r.result c.in-Found.f c.in-Found.is r.ensures.within in
+    let w = found_within 10 d r.result c.in-Some.f c.in-Some.is r.ensures.within in
     let f = c.put_trimmed in
-    let o = token_bits a.l (call_of (take c.in-Found.f.end d)) in
+    let o = token_bits a.l (call_of (take c.in-Some.f.end d)) in
     let u = unpack a.out.now in
     let v = unpack f.new.out in
-    codes_bad _ _ _ _ _ _ c.in-Found.f.end c.in-Found.f.next (found_is 10 d r.result _ c.in-Found.f c.in-Found.is r.ensures.result_value)
-    (bad u a.at v o f.result c.in_default-put_trimmed.is (rw (front_of c.in-Found.f.end d) at f.ensures))
+    codes_bad _ _ _ _ _ _ c.in-Some.f.end c.in-Some.f.next (found_is 10 d r.result _ c.in-Some.f c.in-Some.is r.ensures.result_value)
+    (bad u a.at v o f.result c.in_default-put_trimmed.is (rw (front_of c.in-Some.f.end d) at f.ensures))
 
 pub returns : goal.returns
 returns c =
     let a = c.args in
     let d = a.d.now in
     let r = c.collect in
-    let w = found_within 10 d r.result c.in-Found.f c.in-Found.is r.ensures.within in
+    let w = found_within 10 d r.result c.in-Some.f c.in-Some.is r.ensures.within in
     let pre = c.requires in
     let f = c.put_trimmed in
-    let o = token_bits a.l (call_of (take c.in-Found.f.end d)) in
+    let o = token_bits a.l (call_of (take c.in-Some.f.end d)) in
     let u = unpack a.out.now in
     let v = unpack f.new.out in
-    codes_gave _ _ _ _ _ _ pre.1 pre.2 c.in-Found.f.end c.in-Found.f.next _ (found_is 10 d r.result _ c.in-Found.f c.in-Found.is r.ensures.result_value) (omega (arith, w.0, length-take c.in-Found.f.end d)) w.2
-    (gave u a.at v o f.result _ c.in-Next.is (rw (front_of c.in-Found.f.end d) at f.ensures))
+    codes_gave _ _ _ _ _ _ pre.1 pre.2 c.in-Some.f.end c.in-Some.f.next _ (found_is 10 d r.result _ c.in-Some.f c.in-Some.is r.ensures.result_value) (omega (arith, w.0, length-take c.in-Some.f.end d)) w.2
+    (gave u a.at v o f.result _ c.in-Ok.is (rw (front_of c.in-Some.f.end d) at f.ensures))

@@ -22,18 +22,18 @@ returns-in_default c =
 pub inner_type-requires : goal.inner_type-requires
 inner_type-requires c =
     let a = c.args in
-    told_small (unpack a.s.now) a.at 2 _ _ (sym c.take_at.ensures ∙ c.in-Bits.is) 2 (omega arith)
+    told_small (unpack a.s.now) a.at 2 _ _ (sym c.take_at.ensures ∙ c.in-Some.is) 2 (omega arith)
 
 pub aprs_decode-requires : goal.aprs_decode-requires
 aprs_decode-requires c =
     let a = c.args in
-    let t = told_within (unpack a.s.now) a.at 2 _ _ (sym c.take_at.ensures ∙ c.in-Bits.is) (omega arith) in
+    let t = told_within (unpack a.s.now) a.at 2 _ _ (sym c.take_at.ensures ∙ c.in-Some.is) (omega arith) in
     omega (arith, t, length_unpack a.s.now, c.copy-i.ensures.next_is)
 
 pub returns : goal.returns
 returns c =
     let a = c.args in
     let u = unpack a.s.now in
-    let t = told_bits u a.at 2 c.in-Bits.k c.in-Bits.p (sym c.take_at.ensures ∙ c.in-Bits.is) in
-    rw (inner_some a.mended a.l (drop a.at u) c.in-Bits.k (drop c.in-Bits.p u) t)
-    (reads_then c.copy-i.ensures (read_body a.mended (inner_type c.in-Bits.k) a.l (drop c.in-Bits.p u)) _ _ (rw c.inner_type.ensures at c.aprs_decode.ensures))
+    let t = told_bits u a.at 2 c.in-Some.k c.in-Some.p (sym c.take_at.ensures ∙ c.in-Some.is) in
+    rw (inner_some a.mended a.l (drop a.at u) c.in-Some.k (drop c.in-Some.p u) t)
+    (reads_then c.copy-i.ensures (read_body a.mended (inner_type c.in-Some.k) a.l (drop c.in-Some.p u)) _ _ (rw c.inner_type.ensures at c.aprs_decode.ensures))

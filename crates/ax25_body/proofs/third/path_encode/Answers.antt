@@ -17,15 +17,15 @@ returns-then-i-eq0 c =
     let a = c.args in
     let d = a.d.now in
     let r = c.collect in
-    let w = found_within 14 d r.result c.in-Found.f c.in-Found.is r.ensures.within in
-    rw (path_full a.l d c.in-Found.f.end _ c.in-Found.f.next (found_is 14 d r.result _ c.in-Found.f c.in-Found.is r.ensures.result_value) c.if-i-eq0.true) refl
+    let w = found_within 14 d r.result c.in-Some.f c.in-Some.is r.ensures.within in
+    rw (path_full a.l d c.in-Some.f.end _ c.in-Some.f.next (found_is 14 d r.result _ c.in-Some.f c.in-Some.is r.ensures.result_value) c.if-i-eq0.true) refl
 
 pub slice_bounds-last_encode-count : goal.slice_bounds-last_encode-count
 slice_bounds-last_encode-count c =
     let a = c.args in
     let d = a.d.now in
     let r = c.collect in
-    let w = found_within 14 d r.result c.in-Found.f c.in-Found.is r.ensures.within in
+    let w = found_within 14 d r.result c.in-Some.f c.in-Some.is r.ensures.within in
     w.2
 
 pub slice_bounds-last_encode-start : goal.slice_bounds-last_encode-start
@@ -33,7 +33,7 @@ slice_bounds-last_encode-start c =
     let a = c.args in
     let d = a.d.now in
     let r = c.collect in
-    let w = found_within 14 d r.result c.in-Found.f c.in-Found.is r.ensures.within in
+    let w = found_within 14 d r.result c.in-Some.f c.in-Some.is r.ensures.within in
     w.2
 
 pub returns : goal.returns
@@ -41,5 +41,5 @@ returns c =
     let a = c.args in
     let d = a.d.now in
     let r = c.collect in
-    let w = found_within 14 d r.result c.in-Found.f c.in-Found.is r.ensures.within in
-    rw (path_ended a.l d c.in-Found.f.end _ c.in-Found.f.next (found_is 14 d r.result _ c.in-Found.f c.in-Found.is r.ensures.result_value) c.if-i-eq0.false, ← from_place d c.in-Found.f.next) c.last_encode.ensures
+    let w = found_within 14 d r.result c.in-Some.f c.in-Some.is r.ensures.within in
+    rw (path_ended a.l d c.in-Some.f.end _ c.in-Some.f.next (found_is 14 d r.result _ c.in-Some.f c.in-Some.is r.ensures.result_value) c.if-i-eq0.false, ← from_place d c.in-Some.f.next) c.last_encode.ensures

@@ -1,8 +1,6 @@
 -- `ax25_token::encode::cased` meets its contract.
 -- Assumes nothing.
-use borrow.Author.Rules.{rules}
 use mathlib.Core.Path.{sym, ◌∙◌}
-use borrow.Author.Tests.{not-true, not-false}
 use Rattle.laws.proofs.TextLaws.{upper_low, upper_high, upper_small}
 use Rattle.ax25_token.proofs.PutLaws.{cased_plain, cased_up}
 use Rattle.ax25_token.proofs.encode.cased.Goals as goal

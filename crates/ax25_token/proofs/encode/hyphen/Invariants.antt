@@ -1,12 +1,8 @@
 -- `ax25_token::encode::hyphen` meets its contract. No hyphen was passed.
 -- Assumes nothing.
 use mathlib.Core.Path.{◌≡◌}
-use native.Mathlib.Nat.{not-suc-le-zero}
-use native.Mathlib.Omega.{arith}
 use Prim.Native.Nat.{ℕ, ◌≤◌, ◌<◌, ◌-◌}
 use lib.ListN.{length, get_or}
-use Rattle.laws.proofs.Cases.{by_eq}
-use Rattle.ax25_token.proofs.PutLaws.{base_found, base_none}
 use Rattle.ax25_token.proofs.encode.hyphen.Given as goal
 
 abbrev pub invariant-loop-i : goal.invariant-loop-i

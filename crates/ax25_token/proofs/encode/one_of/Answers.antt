@@ -2,7 +2,6 @@
 -- Assumes nothing.
 use mathlib.Core.Path.{sym, ◌∙◌}
 use Rattle.ax25_token.proofs.PutLaws.{one_hit, one_miss, one_last}
-use borrow.Author.Rules.{rules}
 use Rattle.ax25_token.proofs.encode.one_of.Goals as goal
 
 pub returns-then-same : goal.returns-then-same

@@ -3,7 +3,6 @@
 use mathlib.Core.Path.{sym, ◌∙◌}
 use Rattle.ax25_token.proofs.Cases.{plain_yes, plain_other, plain_hyphened}
 use Rattle.ax25_token.proofs.PutLaws.{hyphen_in, hyphen_out}
-use borrow.Author.Rules.{rules}
 use Rattle.ax25_token.proofs.encode.plain_ap.Goals as goal
 
 pub returns-then-hyphen-c : goal.returns-then-hyphen-c

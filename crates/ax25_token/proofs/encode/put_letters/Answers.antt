@@ -1,5 +1,6 @@
 -- `ax25_token::encode::put_letters` meets its contract. The invariant: what codes the letters that are left, from here, codes all of them.
 -- Assumes nothing.
+use Rattle.std.proofs.Common.{Option}
 use borrow.Author.Rules.{rules}
 use mathlib.Core.Path.{◌≡◌, refl, sym, ap, ◌∙◌}
 use mathlib.Core.Bool.{Bool}
@@ -8,8 +9,7 @@ use Prim.Native.Nat.{◌+◌, ◌-◌, ◌*◌, ◌≤◌}
 use native.Mathlib.Omega.{arith}
 use lib.ListN.{length, drop}
 use Rattle.laws.specs.Bits.{unpack}
-use Rattle.ax25_token.specs.declared.encode.Put.{Put}
-use Rattle.ax25_token.specs.Put.{code_view, cased_of, Puts}
+use Rattle.ax25_token.specs.Put.{cased_of, Puts}
 use Rattle.ax25_token.specs.Tables.{alpha_of, letter_codes}
 use Rattle.ax25_token.specs.Token.{spell}
 use Rattle.ax25_token.proofs.PutLaws.{drop_end, drop_bad, drop_more}
@@ -22,17 +22,15 @@ pub alpha-requires : goal.alpha-requires
 unfolding letter_codes
 alpha-requires c = refl
 
-pub returns-in_default : goal.returns-in_default
-unfolding code_view
-returns-in_default c =
-    let code = sym (c.alpha.ensures ∙ ap alpha_of c.cased.ensures) ∙ ap code_view c.in_default.is in
-    c.loop-i.invariant.3 _ _ (drop_bad _ _ c.loop-i.i _ _ (omega arith) code _)
+pub returns-in_err-v : goal.returns-in_err-v
+returns-in_err-v c =
+    let code = sym (c.alpha.ensures ∙ ap alpha_of c.cased.ensures) ∙ c.in_err-v.was in
+    rw c.from_residual.ensures (c.loop-i.invariant.3 _ _ (drop_bad _ _ c.loop-i.i _ _ (omega arith) code _))
 
 pub loop-i-preserved : goal.loop-i-preserved
-unfolding code_view
 loop-i-preserved c =
     let push = c.push-p in
-    let code = sym (c.alpha.ensures ∙ ap alpha_of c.cased.ensures) ∙ ap code_view c.in-Is.is in (
+    let code = sym (c.alpha.ensures ∙ ap alpha_of c.cased.ensures) ∙ c.in_ok-v.was in (
       search rules,
       search rules,
       search rules,

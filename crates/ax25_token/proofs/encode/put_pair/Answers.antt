@@ -11,7 +11,6 @@ use Rattle.laws.specs.Wrote.{Wrote}
 use Rattle.laws.proofs.WroteLaws.{wrote_then}
 use Rattle.ax25_token.specs.Put.{paired_bits}
 use Rattle.ax25_token.specs.Token.{number_at}
-use borrow.Author.Rules.{rules}
 use Rattle.ax25_token.proofs.encode.put_pair.Goals as goal
 
 -- the index, the digit and the number, one after another

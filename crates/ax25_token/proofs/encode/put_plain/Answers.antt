@@ -22,11 +22,11 @@ returns-in_default c =
 
 pub push-requires : goal.push-requires
 push-requires c =
-    let small = small_count _ _ _ _ c.numbered_of.ensures.small_count c.in-Count.is in
+    let small = small_count _ _ _ _ c.numbered_of.ensures.small_count c.in-Some.is in
     (omega (arith, small), omega (arith, c.push-p.ensures.value, c.requires.2))
 
 pub returns : goal.returns
 returns c =
     let a = c.args in
-    rw (plain_counted a.l a.c.now _ c.numbered_of.ensures.result_value _ _ _ c.in-Count.is)
+    rw (plain_counted a.l a.c.now _ c.numbered_of.ensures.result_value _ _ _ c.in-Some.is)
     (wrote_then c.push-p.ensures.wrote c.push.ensures.wrote)

@@ -28,19 +28,19 @@ pub put_letters-requires : goal.put_letters-requires
 put_letters-requires c =
     (omega (arith, front_size_lem c.args.c.now _ c.hyphen-k.ensures, c.requires), omega (arith, c.requires))
 
-pub returns-in_default : goal.returns-in_default
-returns-in_default c =
+pub returns-in_err-p : goal.returns-in_err-p
+returns-in_err-p c =
     let hyphen = c.hyphen-k in
     let letters = c.put_letters in
     let a = c.args in
-    spelled_refused _ a.at a.l a.c.now _ (front a.c.now _ hyphen.ensures) _ _ letters.ensures c.in_default.is _
+    rw c.from_residual.ensures (spelled_refused _ a.at a.l a.c.now _ (front a.c.now _ hyphen.ensures) _ _ letters.ensures c.in_err-p.was _)
 
 pub put_end-q-requires : goal.put_end-q-requires
 put_end-q-requires c =
     let letters = c.put_letters in
     let hyphen = c.hyphen-k in
     let k = front_size_lem c.args.c.now _ hyphen.ensures in
-    let n = letters_size _ _ _ _ _ (take (hyphen.result - 0) c.args.c.now) _ c.in-Next.is letters.ensures in
+    let n = letters_size _ _ _ _ _ (take (hyphen.result - 0) c.args.c.now) _ c.in_ok-p.was letters.ensures in
     omega (arith, n, k, c.requires)
 
 pub ssid-requires : goal.ssid-requires
@@ -51,7 +51,7 @@ push-requires c =
     let letters = c.put_letters in
     let hyphen = c.hyphen-k in
     let k = front_size_lem c.args.c.now _ hyphen.ensures in
-    let n = letters_size _ _ _ _ _ (take (hyphen.result - 0) c.args.c.now) _ c.in-Next.is letters.ensures in
+    let n = letters_size _ _ _ _ _ (take (hyphen.result - 0) c.args.c.now) _ c.in_ok-p.was letters.ensures in
     (omega arith, omega (arith, n, k, c.requires, c.put_end-q.ensures.upper_bound))
 
 pub returns : goal.returns
@@ -60,5 +60,5 @@ returns c =
     let letters = c.put_letters in
     let end = c.put_end-q in
     let a = c.args in
-    spelled_next _ a.at a.l a.c.now _ (front a.c.now _ hyphen.ensures) _ _ letters.ensures _ c.in-Next.is
+    spelled_next _ a.at a.l a.c.now _ (front a.c.now _ hyphen.ensures) _ _ letters.ensures _ c.in_ok-p.was
     _ _ hyphen.ensures c.ssid.ensures _ _ _ _ end.ensures.wrote c.push.ensures.wrote

@@ -12,4 +12,4 @@ returns-in_default c =
 pub returns : goal.returns
 returns c =
     let a = c.args in
-    rw (unpaired_fixed a.l a.c.now _ c.fixed_of.ensures _ c.in-Is.is) c.push.ensures.wrote
+    rw (unpaired_fixed a.l a.c.now _ c.fixed_of.ensures _ c.in-Some.is) c.push.ensures.wrote

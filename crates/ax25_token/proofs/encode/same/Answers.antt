@@ -2,7 +2,6 @@
 -- Assumes nothing.
 use mathlib.Core.Path.{◌∙◌}
 use Rattle.ax25_token.proofs.PutLaws.{same_not, same_starts}
-use borrow.Author.Rules.{rules}
 use Rattle.ax25_token.proofs.encode.same.Goals as goal
 
 pub returns-then-c-n : goal.returns-then-c-n

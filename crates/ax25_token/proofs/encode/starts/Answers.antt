@@ -1,10 +1,8 @@
 -- `ax25_token::encode::starts` meets its contract. What was passed is the same in both.
 -- Assumes nothing.
-use mathlib.Core.Path.{◌≡◌, sym}
+use mathlib.Core.Path.{sym}
 use native.Mathlib.Nat.{not-suc-le-zero}
 use native.Mathlib.Omega.{arith}
-use Prim.Native.Nat.{ℕ, ◌≤◌, ◌<◌, ◌-◌}
-use lib.ListN.{length, get_or}
 use Rattle.laws.proofs.Cases.{by_eq}
 use Rattle.laws.proofs.TextLaws.{starts_yes, starts_not, starts_short}
 use Rattle.ax25_token.proofs.encode.starts.Goals as goal

@@ -1,12 +1,8 @@
 -- `ax25_token::encode::starts` meets its contract. What was passed is the same in both.
 -- Assumes nothing.
-use mathlib.Core.Path.{◌≡◌, sym}
-use native.Mathlib.Nat.{not-suc-le-zero}
-use native.Mathlib.Omega.{arith}
+use mathlib.Core.Path.{◌≡◌}
 use Prim.Native.Nat.{ℕ, ◌≤◌, ◌<◌, ◌-◌}
 use lib.ListN.{length, get_or}
-use Rattle.laws.proofs.Cases.{by_eq}
-use Rattle.laws.proofs.TextLaws.{starts_yes, starts_not, starts_short}
 use Rattle.ax25_token.proofs.encode.starts.Given as goal
 
 abbrev pub invariant-loop-i : goal.invariant-loop-i

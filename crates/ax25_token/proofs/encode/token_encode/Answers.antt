@@ -11,10 +11,10 @@ returns-in_default c =
 
 pub put_pair-requires : goal.put_pair-requires
 put_pair-requires c =
-    let small = small_row _ _ _ _ c.pair_of.ensures.small_row c.in-Paired.is in
+    let small = small_row _ _ _ _ c.pair_of.ensures.small_row c.in-Some.is in
     (small.0, small.1, c.requires.1)
 
 pub returns : goal.returns
 returns c =
     let a = c.args in
-    rw (token_paired a.l a.c.now _ c.pair_of.ensures.c_value _ _ _ c.in-Paired.is) c.put_pair.ensures
+    rw (token_paired a.l a.c.now _ c.pair_of.ensures.c_value _ _ _ c.in-Some.is) c.put_pair.ensures

@@ -2,7 +2,6 @@
 -- Assumes nothing.
 use mathlib.Core.Path.{sym, ◌∙◌}
 use Rattle.ax25_token.proofs.NameLaws.{fixed_bpq, fixed_jyc, fixed_opy, fixed_u25, fixed_vara, fixed_none}
-use borrow.Author.Rules.{rules}
 use Rattle.ax25_token.proofs.names.fixed_ap.Goals as goal
 
 pub returns-then-same : goal.returns-then-same

@@ -2,7 +2,6 @@
 -- Assumes nothing.
 use mathlib.Core.Path.{sym, ◌∙◌}
 use Rattle.ax25_token.proofs.NameLaws.{fixed_all, fixed_cq, fixed_later}
-use borrow.Author.Rules.{rules}
 use Rattle.ax25_token.proofs.names.fixed_of.Goals as goal
 
 pub returns-then-same : goal.returns-then-same

@@ -2,7 +2,6 @@
 -- Assumes nothing.
 use mathlib.Core.Path.{sym, ◌∙◌}
 use Rattle.ax25_token.proofs.NameLaws.{range_other, range_low, range_high}
-use borrow.Author.Rules.{rules}
 use Rattle.ax25_token.proofs.names.in_range.Goals as goal
 
 pub returns-then-v-low : goal.returns-then-v-low

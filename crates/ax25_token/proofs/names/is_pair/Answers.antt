@@ -3,7 +3,6 @@
 use mathlib.Core.Path.{sym, ◌∙◌}
 use native.Mathlib.Omega.{arith}
 use Rattle.ax25_token.proofs.NameLaws.{starts_room, pair_behind, pair_other}
-use borrow.Author.Rules.{rules}
 use Rattle.ax25_token.proofs.names.is_pair.Goals as goal
 
 pub slice_bounds-one_of-count : goal.slice_bounds-one_of-count

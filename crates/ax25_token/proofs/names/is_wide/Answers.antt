@@ -4,7 +4,6 @@ use mathlib.Core.Path.{sym, ◌∙◌}
 use native.Mathlib.Omega.{arith}
 use Rattle.laws.specs.Text.{ascii}
 use Rattle.ax25_token.proofs.NameLaws.{starts_room, wide_behind, wide_other}
-use borrow.Author.Rules.{rules}
 use Rattle.ax25_token.proofs.names.is_wide.Goals as goal
 
 pub slice_bounds-wide_end-count : goal.slice_bounds-wide_end-count

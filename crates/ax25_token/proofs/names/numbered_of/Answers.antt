@@ -2,7 +2,6 @@
 -- Assumes nothing.
 use mathlib.Core.Path.{sym, ◌∙◌}
 use Rattle.ax25_token.proofs.NameLaws.{range_least, count_apin, count_apww, count_apdr, count_none}
-use borrow.Author.Rules.{rules}
 use Rattle.ax25_token.proofs.names.numbered_of.Goals as goal
 
 pub returns-then-in_range : goal.returns-then-in_range

@@ -2,7 +2,6 @@
 -- Assumes nothing.
 use mathlib.Core.Path.{sym, ◌∙◌}
 use Rattle.ax25_token.proofs.NameLaws.{row_wide, row_pnw, row_mw, row_or, row_wa, row_none}
-use borrow.Author.Rules.{rules}
 use Rattle.ax25_token.proofs.names.pair_of.Goals as goal
 
 pub returns-then-is_wide : goal.returns-then-is_wide

@@ -1,7 +1,6 @@
 -- `ax25_token::names::two_at` meets its contract.
 -- Assumes nothing.
 use Rattle.ax25_token.proofs.NameLaws.{two_past, two_yes, two_no}
-use borrow.Author.Rules.{rules}
 use Rattle.ax25_token.proofs.names.two_at.Goals as goal
 
 pub returns-then-c-k : goal.returns-then-c-k

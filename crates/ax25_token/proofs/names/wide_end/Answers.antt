@@ -2,7 +2,6 @@
 -- Assumes nothing.
 use mathlib.Core.Path.{sym, ◌∙◌}
 use Rattle.ax25_token.proofs.NameLaws.{ends_low, ends_high}
-use borrow.Author.Rules.{rules}
 use Rattle.ax25_token.proofs.names.wide_end.Goals as goal
 
 pub returns-then-one_of : goal.returns-then-one_of

@@ -1,14 +1,13 @@
 -- `bits::read::after` meets its contract.
 -- Assumes nothing.
 use mathlib.Core.Path.{sym, ap}
-use borrow.Author.Rules.{rules}
 use Rattle.bits.specs.Read.{after_of}
 use Rattle.bits.proofs.read.after.Goals as goal
 
-pub returns-in-Bits : goal.returns-in-Bits
+pub returns-in-Some : goal.returns-in-Some
 unfolding after_of
-returns-in-Bits c = ap (λ t. after_of t c.args.at) (sym c.in-Bits.is)
+returns-in-Some c = ap (λ t. after_of t c.args.at) (sym c.in-Some.is)
 
-pub returns-in-Short : goal.returns-in-Short
+pub returns-in-None : goal.returns-in-None
 unfolding after_of
-returns-in-Short c = ap (λ t. after_of t c.args.at) (sym c.in-Short.is)
+returns-in-None c = ap (λ t. after_of t c.args.at) (sym c.in-None.is)

@@ -1,6 +1,5 @@
 -- `bits::read::block` meets its contract.
 -- Assumes nothing.
-use borrow.Author.Rules.{rules}
 use native.Mathlib.Omega.{arith}
 use Prim.Native.Nat.{◌/◌}
 use Rattle.laws.specs.Bits.{unpack}

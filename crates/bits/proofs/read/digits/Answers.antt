@@ -4,15 +4,13 @@ use borrow.Author.Rules.{rules}
 use native.Mathlib.Omega.{arith}
 use mathlib.Core.Path.{◌≡◌}
 use mathlib.Core.Bool.{false}
-use mathlib.Core.List.{map}
-use Prim.Native.Nat.{◌+◌, ◌-◌, ◌≤◌, ◌<◌}
-use lib.ListN.{length, take, drop, get_or, length-drop}
+use Prim.Native.Nat.{◌+◌, ◌<◌}
+use lib.ListN.{length, drop, get_or, length-drop}
 use lib.Seq.{get_or-drop}
 use Rattle.laws.specs.Bits.{unpack}
 use Rattle.laws.specs.Digits.{number_of}
 use Rattle.laws.proofs.BitLaws.{num_lt}
 use Rattle.laws.proofs.ByteLaws.{length_unpack}
-use Rattle.bits.specs.Read.{letter}
 use Rattle.bits.proofs.ReadLaws.{letters_suc, letters_fit}
 use Rattle.bits.proofs.read.digits.Goals as goal
 

@@ -1,6 +1,5 @@
 -- `bits::read::get_bit` meets its contract.
 -- Assumes nothing.
-use borrow.Author.Rules.{rules}
 use Rattle.laws.proofs.BitLaws.{num_odd}
 use Rattle.laws.proofs.ByteLaws.{get_unpack}
 use Rattle.bits.proofs.read.get_bit.Goals as goal

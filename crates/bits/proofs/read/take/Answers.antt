@@ -1,6 +1,5 @@
 -- `bits::read::take` meets its contract: each way out is a case of the definition.
 -- Assumes nothing.
-use borrow.Author.Rules.{rules}
 use native.Mathlib.Nat.{add-zero}
 use native.Mathlib.Omega.{arith}
 use Rattle.laws.specs.Bits.{value_of}

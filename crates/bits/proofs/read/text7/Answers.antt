@@ -12,7 +12,6 @@ use Rattle.laws.proofs.BitLaws.{num_lt, odd_num}
 use Rattle.laws.proofs.ByteLaws.{length_unpack}
 use Rattle.bits.specs.Read.{numbers}
 use Rattle.bits.specs.Text7.{text7_of, text7_next, text7_left}
-use Rattle.bits.specs.declared.read.Got.TheVariants.{Next}
 use Rattle.bits.proofs.Text7Laws.{text7_none, text7_some, end_le}
 use Rattle.bits.proofs.read.text7.Goals as goal
 
@@ -47,4 +46,4 @@ returns c =
     let e : text7_of b a.at ≡ Some (numbers 7 n.result (drop a.at b)) =
     rw (n.ensures, end.ensures, last)
     (text7_some b a.at (omega (arith, length_unpack s, c.if-s-eq0.false))) in
-    (rw e (ap Next wrote.next_is), rw e wrote.stored)
+    (rw e (ap Some wrote.next_is), rw e wrote.stored)

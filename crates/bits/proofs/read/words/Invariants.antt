@@ -1,18 +1,11 @@
--- `bits::read::words` meets its contract. The first i bytes are written.
+-- `bits::read::words` meets its contract. The first k words are written.
 -- Assumes nothing.
-use borrow.Author.Rules.{rules}
-use native.Mathlib.Omega.{arith}
-use mathlib.Core.Path.{◌≡◌, refl, sym}
-use Prim.Native.Nat.{◌+◌, ◌-◌, ◌*◌, ◌≤◌}
-use lib.ListN.{length, take, drop, length-drop}
-use lib.Seq.{sets, drop-drop, take-add, length-take-le}
-use Rattle.laws.specs.Bits.{bits_of, unpack}
-use Rattle.laws.proofs.ByteLaws.{length_unpack}
-use Rattle.laws.proofs.ListLaws.{sets_append}
+use mathlib.Core.Path.{◌≡◌}
+use Prim.Native.Nat.{◌*◌}
+use lib.ListN.{length, take, drop}
+use lib.Seq.{sets}
+use Rattle.laws.specs.Bits.{unpack}
 use Rattle.bits.proofs.read.words.Given as goal
 
-abbrev pub invariant-loop-i : goal.invariant-loop-i
-invariant-loop-i l = (l.i ≤ l.n) × (l.i ≤ l.most) × (length l.out ≡ length l.initial.out) × (unpack l.out ≡ sets (unpack l.initial.out) (l.to * 8) (take (l.i * 8) (drop l.at (unpack l.s))))
-
-abbrev pub decreases-loop-i : goal.decreases-loop-i
-decreases-loop-i l = l.most - l.i
+abbrev pub invariant-loop-k : goal.invariant-loop-k
+invariant-loop-k l = (length l.out ≡ length l.initial.out) × (unpack l.out ≡ sets (unpack l.initial.out) (l.to * 8) (take (l.k * 64) (drop l.at (unpack l.s))))

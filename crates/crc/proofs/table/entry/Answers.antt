@@ -2,7 +2,6 @@
 -- Assumes nothing.
 use Prim.Native.Nat.{◌+◌, ◌*◌, ◌/◌, ◌%◌}
 use native.Mathlib.Omega.{arith}
-use borrow.Author.Rules.{rules}
 use Rattle.crc.proofs.LinearLaws.{nibbles}
 use Rattle.crc.proofs.TableLaws.{row}
 use Rattle.crc.proofs.table.entry.Goals as goal

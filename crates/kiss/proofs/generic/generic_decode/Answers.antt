@@ -20,4 +20,4 @@ pub returns : goal.returns
 returns c =
     let text = c.text7_at in
     let a = c.args in
-    text_back _ a.message.now c.if-message-eq0.false (sym text.ensures.0 ∙ c.in-Next.is) text.ensures.1
+    text_back _ a.message.now c.if-message-eq0.false (sym text.ensures.0 ∙ c.in-Ok.is) text.ensures.1

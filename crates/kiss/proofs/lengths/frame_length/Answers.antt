@@ -8,23 +8,17 @@ use Rattle.kiss.proofs.EncodeLaws.{short_frame, run_none, run_length}
 use borrow.Author.Rules.{rules}
 use Rattle.kiss.proofs.lengths.frame_length.Goals as goal
 
-pub returns-in_default : goal.returns-in_default
-returns-in_default c =
+pub returns-in_err-r : goal.returns-in_err-r
+returns-in_err-r c =
     let a = c.args in
-    ap length_of (sym (short_frame a.command a.«data».now (sym (ap found_of c.in_default.is) ∙ c.parse.ensures)))
+    ap length_of (sym (short_frame a.command a.«data».now (sym (ap found_of c.in_err-r.ensures.ok_part) ∙ c.parse.ensures)))
 
 pub encode-requires : goal.encode-requires
 encode-requires c =
-    (c.requires, sym (ap found_of c.in-Found.is) ∙ c.parse.ensures)
+    (c.requires, sym (ap found_of c.in_ok-r.ensures.ok_part) ∙ c.parse.ensures)
 
-pub returns-in-Refused : goal.returns-in-Refused
-returns-in-Refused c =
+pub returns : goal.returns
+returns c =
     let d = c.encode in
     let a = c.args in
-    run_none _ _ d.result _ (encode_of a.command a.«data».now) d.ensures c.in-Refused.is
-
-pub returns-in-Next : goal.returns-in-Next
-returns-in-Next c =
-    let d = c.encode in
-    let a = c.args in
-    run_length _ _ d.result _ (encode_of a.command a.«data».now) d.ensures c.in-Next.is
+    run_length _ _ d.result (encode_of a.command a.«data».now) d.ensures

@@ -21,14 +21,14 @@ returns-then-command-eq2 c =
     let a = c.args in
     of_generic a.command a.«data».now c.if-command-gt2.false c.if-data-gt-MAX_DATA.false c.if-command-eq2.true
 
-pub returns-in_default : goal.returns-in_default
-returns-in_default c =
+pub returns-in_err-found : goal.returns-in_err-found
+returns-in_err-found c =
     let a = c.args in
-    let p = sym c.parse.ensures ∙ ap found_of c.in_default.is in
+    let p = sym c.parse.ensures ∙ ap found_of c.in_err-found.ensures.ok_part in
     of_short a.command a.«data».now c.if-command-gt2.false c.if-data-gt-MAX_DATA.false c.if-command-eq2.false p
 
 pub returns : goal.returns
 returns c =
     let a = c.args in
-    let p = sym c.parse.ensures ∙ ap found_of c.in-Found.is in
+    let p = sym c.parse.ensures ∙ ap found_of c.in_ok-found.ensures.ok_part in
     of_found a.command a.«data».now c.if-command-gt2.false c.if-data-gt-MAX_DATA.false c.if-command-eq2.false _ _ p c.ui_control-ui.ensures

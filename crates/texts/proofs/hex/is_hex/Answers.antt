@@ -1,28 +1,15 @@
--- `texts::hex::is_hex` meets its contract. What was passed are digits: the answer is that of the rest.
+-- `texts::hex::is_hex` meets its contract.
 -- Assumes nothing.
-use borrow.Author.Rules.{rules}
-use mathlib.Core.Path.{refl}
-use native.Mathlib.Omega.{arith}
-use lib.ListN.{get_or}
-use borrow.Author.Tests.{lt-ltb, le-ltb}
-use Rattle.texts.specs.Hex.{hex_value}
-use Rattle.texts.proofs.HexLaws.{hex_end, hex_at}
+use mathlib.Core.Path.{◌∙◌}
+use Rattle.std.proofs.Common.{rules, tests}
+use Rattle.std.specs.Option.{is_some}
+use Rattle.std.proofs.lemmas.Iterator.{YieldsList-from_slice}
+use Rattle.std.proofs.lemmas.Iterator.Search.{all_from_yields_List}
+use Rattle.texts.specs.Hex.{digit_value}
+use Rattle.texts.proofs.HexLaws.{hex_all}
 use Rattle.texts.proofs.hex.is_hex.Goals as goal
 
-pub loop-i-init : goal.loop-i-init
-loop-i-init c = (search rules, refl)
-
-pub returns-then-digit-gt15 : goal.returns-then-digit-gt15
-returns-then-digit-gt15 c =
-    let value = c.digit in
-    let x = get_or c.args.text.now c.loop-i.i 0 in
-    rw (← c.loop-i.invariant.1, hex_at _ _ c.loop-i-test.true, le-ltb (hex_value x) 16 (omega (arith, c.if-digit-gt15.true, value.ensures.0)))
-
-pub loop-i-preserved : goal.loop-i-preserved
-loop-i-preserved c =
-    let value = c.digit in
-    let x = get_or c.args.text.now c.loop-i.i 0 in
-    (search rules, rw (← c.loop-i.invariant.1, hex_at _ _ c.loop-i-test.true, lt-ltb (hex_value x) 16 (omega (arith, c.if-digit-gt15.false, value.ensures.0))))
-
 pub returns : goal.returns
-returns c = rw (← c.loop-i.invariant.1, hex_end _ _ c.loop-i-test.false)
+returns c =
+    let text = c.args.text.now in
+    all_from_yields_List (λ x. is_some (digit_value x)) _ _ _ c.all.ensures.ran (YieldsList-from_slice text cc) (λ x b q k. search (rules, tests)) ∙ hex_all text

@@ -1,4 +1,4 @@
--- `texts::hex::put_hex` meets its contract. The digits of the first i bytes are written.
+-- `texts::hex::put_hex` meets its contract. The digits of the first bytes are written.
 -- Assumes nothing.
 use borrow.Author.Rules.{rules}
 use mathlib.Core.List.{List, flat_map}
@@ -17,22 +17,20 @@ two_more : {b d : List ℕ} {p q : ℕ} (at i x : ℕ) → p ≤ at + i * 2 → 
 unfolding hex_byte
 two_more at i x h w = omega (arith, w.next_is)
 
-pub loop-i-init : goal.loop-i-init
+pub loop-x-init : goal.loop-x-init
 unfolding flat_map
-loop-i-init c = (search rules, search rules, search rules, wrote_none)
+loop-x-init c = (search rules, wrote_none)
 
-pub loop-i-preserved : goal.loop-i-preserved
-loop-i-preserved c =
+pub loop-x-preserved : goal.loop-x-preserved
+loop-x-preserved c =
     let put = c.put_byte-next in
     let s = c.args.s.now in
-    let i = c.loop-i.i in (
-      search rules,
-      two_more c.args.at i (get_or s i 0) c.loop-i.invariant.1 put.ensures,
-      search rules,
-      rw (flat_more hex_byte s i c.loop-i-test.true) (wrote_then c.loop-i.invariant.3 put.ensures),
+    let i = c.loop-x.x-index in (
+      two_more c.args.at i (get_or s i 0) c.loop-x.invariant.0 put.ensures,
+      rw (flat_more hex_byte s i c.loop-x-test.true) (wrote_then c.loop-x.invariant.1 put.ensures),
     )
 
 pub returns : goal.returns
 unfolding hex_of
 returns c =
-    rw (take_all c.loop-i.i c.args.s.now (omega arith)) at c.loop-i.invariant.3
+    rw (take_all c.loop-x.x-index c.args.s.now c.loop-x-test.false) at c.loop-x.invariant.1

@@ -1,29 +1,26 @@
--- `texts::number::decimal` meets its contract. The number so far, with the rest behind it, is that of the whole.
+-- `texts::number::decimal` meets its contract. The number so far, with the rest after it, is that of the whole.
 -- Assumes nothing.
-use borrow.Author.Rules.{rules}
-use mathlib.Core.Path.{refl, sym, ap, ◌∙◌}
-use Rattle.texts.specs.Number.{number_is}
+use mathlib.Core.Path.{sym, ◌∙◌}
+use lib.ListN.{length}
+use borrow.Author.Tests.{eqb-true, eqb-false}
 use Rattle.texts.proofs.NumberLaws.{decimal_none, decimal_some, number_end, number_none, number_next}
 use Rattle.texts.proofs.number.decimal.Goals as goal
 
-pub returns-then-text-eq0 : goal.returns-then-text-eq0
-returns-then-text-eq0 c = decimal_none _ c.if-text-eq0.true
+pub returns-then-is_empty : goal.returns-then-is_empty
+returns-then-is_empty c =
+    decimal_none _ (eqb-true (length c.args.text.now) 0 (sym c.is_empty.ensures ∙ c.if-is_empty.true))
 
-pub loop-i-init : goal.loop-i-init
-loop-i-init c = (search rules, refl)
+pub returns-in_err-v : goal.returns-in_err-v
+returns-in_err-v c =
+    let some = eqb-false (length c.args.text.now) 0 (sym c.is_empty.ensures ∙ c.if-is_empty.false) in
+    let stop = number_none _ _ _ c.loop-c-test.true (sym c.in_err-v.was ∙ c.with_digit.ensures) in
+    c.from_residual.ensures ∙ sym stop ∙ c.loop-c.invariant ∙ decimal_some _ some
 
-pub returns-in_default : goal.returns-in_default
-returns-in_default c =
-    let digit = c.with_digit in
-    let stop = number_none _ _ _ c.loop-i-test.true (sym (ap number_is c.in_default.is) ∙ digit.ensures) in
-    sym stop ∙ c.loop-i.invariant.1 ∙ decimal_some _ c.if-text-eq0.false
-
-pub loop-i-preserved : goal.loop-i-preserved
-loop-i-preserved c =
-    let digit = c.with_digit in
-    let told = sym (ap number_is c.in-Is.is) ∙ digit.ensures in
-    (search rules, number_next _ _ _ c.loop-i-test.true _ told ∙ c.loop-i.invariant.1)
+pub loop-c-preserved : goal.loop-c-preserved
+loop-c-preserved c =
+    number_next _ _ _ c.loop-c-test.true _ (sym c.in_ok-v.was ∙ c.with_digit.ensures) ∙ c.loop-c.invariant
 
 pub returns : goal.returns
 returns c =
-    sym (number_end _ _ _ c.loop-i-test.false) ∙ c.loop-i.invariant.1 ∙ decimal_some _ c.if-text-eq0.false
+    let some = eqb-false (length c.args.text.now) 0 (sym c.is_empty.ensures ∙ c.if-is_empty.false) in
+    sym (number_end _ _ _ c.loop-c-test.false) ∙ c.loop-c.invariant ∙ decimal_some _ some

@@ -1,13 +1,9 @@
--- `texts::number::decimal` meets its contract. The number so far, with the rest behind it, is that of the whole.
+-- `texts::number::decimal` meets its contract. The number so far, with the rest after it, is that of the whole.
 -- Assumes nothing.
 use mathlib.Core.Path.{◌≡◌}
-use Prim.Native.Nat.{◌-◌, ◌≤◌}
-use lib.ListN.{length, drop}
+use lib.ListN.{drop}
 use Rattle.texts.specs.Number.{number_from}
 use Rattle.texts.proofs.number.decimal.Given as goal
 
-abbrev pub invariant-loop-i : goal.invariant-loop-i
-invariant-loop-i l = (l.i ≤ length l.text) × (number_from l.v (drop l.i l.text) ≡ number_from 0 l.text)
-
-abbrev pub decreases-loop-i : goal.decreases-loop-i
-decreases-loop-i l = length l.text - l.i
+abbrev pub invariant-loop-c : goal.invariant-loop-c
+invariant-loop-c l = number_from l.v (drop l.c-index l.text) ≡ number_from 0 l.text

@@ -9,7 +9,7 @@ returns-then-e-s c =
     let find = c.find-e.ensures in
     (omega (arith, find.0), omega arith, next_here _ _ _ _ find.2 c.if-e-s.true)
 
-pub returns : goal.returns
-returns c =
+pub returns-else-e-s : goal.returns-else-e-s
+returns-else-e-s c =
     let find = c.find-e.ensures in
     (find.0, find.1, next_end _ _ _ _ find.2 c.if-e-s.false)

@@ -5,4 +5,4 @@ use Rattle.laws.proofs.ListLaws.{from_place}
 use Rattle.texts.proofs.part.rest.Goals as goal
 
 pub returns : goal.returns
-returns c = from_place c.args.s.now c.next-at.result ∙ c.next-at.ensures.2
+returns c = from_place c.args.s.now c.next.result ∙ c.next.ensures.2

@@ -1,21 +1,22 @@
 -- `texts::say::put_unread` meets its contract, by cases.
 -- Assumes nothing.
+use native.Mathlib.Omega.{arith}
+use Prim.Native.Nat.{◌≤◌}
+use lib.ListN.{length}
 use Rattle.laws.proofs.WroteLaws.{wrote_none}
 use Rattle.texts.specs.Say.{unread_line}
+use Rattle.texts.proofs.SayLaws.{fault_few}
 use Rattle.texts.proofs.say.put_unread.Goals as goal
 
-pub returns-in-NoDigit : goal.returns-in-NoDigit
+pub returns-in-Ok : goal.returns-in-Ok
 unfolding unread_line
-returns-in-NoDigit c = rw c.in-NoDigit.is c.put_error.ensures
+returns-in-Ok c = rw c.in-Ok.is wrote_none
 
-pub returns-in-Odd : goal.returns-in-Odd
-unfolding unread_line
-returns-in-Odd c = rw c.in-Odd.is c.put_error-in-Odd.ensures
+pub put_error-requires : goal.put_error-requires
+put_error-requires c =
+    let few : length c.fault.result.now ≤ 30 = rw c.fault.ensures (fault_few c.in-Err.error) in
+    (c.requires, omega (arith, few))
 
-pub returns-in-TooLong : goal.returns-in-TooLong
+pub returns-in-Err : goal.returns-in-Err
 unfolding unread_line
-returns-in-TooLong c = rw c.in-TooLong.is c.put_error-in-TooLong.ensures
-
-pub returns-in-Bytes : goal.returns-in-Bytes
-unfolding unread_line
-returns-in-Bytes c = rw c.in-Bytes.is wrote_none
+returns-in-Err c = rw (c.in-Err.is, ← c.fault.ensures) c.put_error.ensures
