@@ -1,7 +1,10 @@
 -- `kept::Kept::drop_name` meets its contract.
 -- Assumes nothing.
 use mathlib.Core.Path.{sym, ap, ◌∙◌}
+use mathlib.Core.Bool.{true, false}
 use mathlib.Core.List.{[]}
+use Rattle.kept.specs.declared.Keeping.{Keeping}
+use Rattle.kept.specs.declared.Kept.{Kept}
 use Prim.Native.Nat.{ℕ}
 use Rattle.refusals.specs.Outcome.{Outcome, answer, outcome_of}
 use Rattle.receiver.specs.New.{fresh_of}
@@ -12,8 +15,8 @@ use Rattle.kept.proofs.Calls.{drop_is, drop_slot}
 use Rattle.kept.proofs.Flags.{slot_kept}
 use Rattle.kept.proofs.Kept.drop_name.Goals as goal
 
-pub accepted-requires : goal.accepted-requires
-accepted-requires c =
+pub put-requires : goal.put-requires
+put-requires c =
     let a = c.args in (
       drop_slot a.self a.lent.now a.name.now c.lent_refusal-refusal.ensures c.find.ensures c.placed.ensures _ (ap outcome_of c.in-Ok.is),
       rw c.free.ensures (slot_kept [] (fresh_of 0)),
@@ -22,7 +25,7 @@ accepted-requires c =
 pub returns-in-Ok : goal.returns-in-Ok
 returns-in-Ok c =
     let a = c.args in
-    c.accepted.ensures
+    ap {A = Kept} {B = Keeping} (λ k. record { ok = true; refusal = 0; place = c.in-Ok.place; kept = k }) c.put.ensures
     ∙ ap (λ (s : Slot). to_keeping (answer c.in-Ok.place) (with_slot a.self c.in-Ok.place s)) c.free.ensures
     ∙ ap (λ (x : Outcome ℕ). to_dropped (dropped_at x a.self)) (sym (ap outcome_of c.in-Ok.is))
     ∙ ap to_dropped (drop_is a.self a.lent.now a.name.now c.lent_refusal-refusal.ensures c.find.ensures c.placed.ensures)
@@ -30,6 +33,6 @@ returns-in-Ok c =
 pub returns-in-Err : goal.returns-in-Err
 returns-in-Err c =
     let a = c.args in
-    c.refused.ensures
+    ap {A = ℕ} {B = Keeping} (λ n. record { ok = false; refusal = n; place = 0; kept = a.self }) c.from.ensures
     ∙ ap (λ (x : Outcome ℕ). to_dropped (dropped_at x a.self)) (sym (ap outcome_of c.in-Err.is))
     ∙ ap to_dropped (drop_is a.self a.lent.now a.name.now c.lent_refusal-refusal.ensures c.find.ensures c.placed.ensures)

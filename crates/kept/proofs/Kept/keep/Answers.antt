@@ -3,7 +3,9 @@
 use borrow.Author.Rules.{rules}
 use native.Mathlib.Omega.{arith}
 use mathlib.Core.Path.{◌≡◌, sym, ap, ap₂, ◌∙◌}
+use mathlib.Core.Bool.{true, false}
 use mathlib.Core.List.{List}
+use Rattle.kept.specs.declared.Kept.{Kept}
 use Prim.Native.Nat.{ℕ, max}
 use lib.ListN.{length}
 use Rattle.refusals.specs.Outcome.{Outcome, answer, outcome_of}
@@ -31,8 +33,8 @@ named-requires c =
     let found = ap outcome_of c.in-Ok.is in
     keep_name a.self a.receiver a.store.now a.lent.now a.name.now checked c.place_for.ensures c.placed.ensures _ found
 
-pub accepted-requires : goal.accepted-requires
-accepted-requires c =
+pub put-requires : goal.put-requires
+put-requires c =
     let a = c.args in
     let checked = c.larger-refusal.ensures ∙ ap₂ max c.refusal.ensures c.lent_refusal-kept.ensures in
     let found = ap outcome_of c.in-Ok.is in
@@ -45,7 +47,7 @@ returns-in-Ok c =
     let checked = c.larger-refusal.ensures ∙ ap₂ max c.refusal.ensures c.lent_refusal-kept.ensures in
     let found = ap outcome_of c.in-Ok.is in
     ap₂ {A = Keeping} {B = List ℕ} {C = Keeping × List ℕ} (λ x y. (x, y))
-    (c.accepted.ensures ∙ ap (λ (s : Slot). to_keeping (answer c.in-Ok.place) (with_slot a.self c.in-Ok.place s)) c.named.ensures) c.copy_in.ensures
+    (ap {A = Kept} {B = Keeping} (λ k. record { ok = true; refusal = 0; place = c.in-Ok.place; kept = k }) c.put.ensures ∙ ap (λ (s : Slot). to_keeping (answer c.in-Ok.place) (with_slot a.self c.in-Ok.place s)) c.named.ensures) c.copy_in.ensures
     ∙ ap (λ (x : Outcome ℕ). to_keeping_with (kept_at x a.self a.receiver a.store.now a.lent.now a.name.now)) (sym found)
     ∙ ap to_keeping_with (keep_is a.self a.receiver a.store.now a.lent.now a.name.now checked c.place_for.ensures c.placed.ensures)
 
@@ -53,6 +55,7 @@ pub returns-in-Err : goal.returns-in-Err
 returns-in-Err c =
     let a = c.args in
     let checked = c.larger-refusal.ensures ∙ ap₂ max c.refusal.ensures c.lent_refusal-kept.ensures in
-    ap {A = Keeping} {B = Keeping × List ℕ} (λ x. (x, a.lent.now)) c.refused.ensures
+    ap {A = Keeping} {B = Keeping × List ℕ} (λ x. (x, a.lent.now))
+    (ap {A = ℕ} {B = Keeping} (λ n. record { ok = false; refusal = n; place = 0; kept = a.self }) c.from.ensures)
     ∙ ap (λ (x : Outcome ℕ). to_keeping_with (kept_at x a.self a.receiver a.store.now a.lent.now a.name.now)) (sym (ap outcome_of c.in-Err.is))
     ∙ ap to_keeping_with (keep_is a.self a.receiver a.store.now a.lent.now a.name.now checked c.place_for.ensures c.placed.ensures)
