@@ -58,7 +58,11 @@ fn code(refusal: Option<Refusal>) -> u8
 fn larger(a: Option<Refusal>, b: Option<Refusal>) -> Option<Refusal>
     ensures { code_of result ≡ max (code_of a) (code_of b) }
 {
-    if code(a) < code(b) { b } else { a }
+    match (a, b) {
+        (None, _) => b,
+        (_, None) => a,
+        (Some(x), Some(y)) => if u8::from(x) < u8::from(y) { b } else { a },
+    }
 }
 
 impl Slot {
@@ -242,46 +246,26 @@ impl Kept {
         }
     }
 
-    // Another slot at a place, and flags that are 0 or 1.
-    fn put(&mut self, place: usize, slot: Slot)
-        requires { (place < length self.old.slots) × (to_slot slot ≡ slot) }
-        ensures { self.new ≡ to_kept (with_slot self.old place slot) }
-    {
-        if self.has_other_flag() {
-            *self = self.shown();
-        }
-        self.slots[place] = slot;
-    }
-
     // Keeps a receiver's state under a name, and its whole store in the lent bytes.
-    pub fn keep(
-        mut self,
-        receiver: Reassembler,
-        store: &[u8],
-        lent: &mut [u8],
-        name: &[u8],
-    ) -> Keeping
+    pub fn keep(self, receiver: Reassembler, store: &[u8], lent: &mut [u8], name: &[u8]) -> Keeping
         ensures { (result, lent.new) ≡ to_keeping_with (keep_of self receiver store.now lent.old name.now) }
     {
-        let kept = self.lent_refusal(lent.len());
-        let refusal = larger(receiver.state.refusal(store.len()), kept);
-        match placed(refusal, name.len(), Refusal::Kept, self.place_for(name)) {
-            Ok(place) => {
-                self.put(place, Slot::named(name, receiver));
-                copy_in(lent, place, store);
-                Keeping {
-                    ok: true,
-                    refusal: 0,
-                    place,
-                    kept: self,
-                }
+        let state = receiver.state.refusal(store.len());
+        let refusal = larger(state, self.lent_refusal(lent.len()));
+        let placed = placed(refusal, name.len(), Refusal::Kept, self.place_for(name));
+        let mut kept = self;
+        if let Ok(place) = placed {
+            if self.has_other_flag() {
+                kept = self.shown();
             }
-            Err(refusal) => Keeping {
-                ok: false,
-                refusal: u8::from(refusal),
-                place: 0,
-                kept: self,
-            },
+            kept.slots[place] = Slot::named(name, receiver);
+            copy_in(lent, place, store);
+        }
+        Keeping {
+            ok: placed.is_ok(),
+            refusal: code(placed.err()),
+            place: placed.unwrap_or(0),
+            kept,
         }
     }
 
@@ -302,26 +286,23 @@ impl Kept {
     }
 
     // Makes the slot of a name free. No lent byte is written.
-    pub fn drop_name(mut self, lent: &[u8], name: &[u8]) -> Keeping
+    pub fn drop_name(self, lent: &[u8], name: &[u8]) -> Keeping
         ensures { result ≡ to_dropped (drop_of self lent.now name.now) }
     {
         let refusal = self.lent_refusal(lent.len());
-        match placed(refusal, name.len(), Refusal::Name, self.find(name)) {
-            Ok(place) => {
-                self.put(place, Slot::free());
-                Keeping {
-                    ok: true,
-                    refusal: 0,
-                    place,
-                    kept: self,
-                }
+        let placed = placed(refusal, name.len(), Refusal::Name, self.find(name));
+        let mut kept = self;
+        if let Ok(place) = placed {
+            if self.has_other_flag() {
+                kept = self.shown();
             }
-            Err(refusal) => Keeping {
-                ok: false,
-                refusal: u8::from(refusal),
-                place: 0,
-                kept: self,
-            },
+            kept.slots[place] = Slot::free();
+        }
+        Keeping {
+            ok: placed.is_ok(),
+            refusal: code(placed.err()),
+            place: placed.unwrap_or(0),
+            kept,
         }
     }
 }

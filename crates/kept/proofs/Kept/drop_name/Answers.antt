@@ -1,38 +1,44 @@
 -- `kept::Kept::drop_name` meets its contract.
 -- Assumes nothing.
-use mathlib.Core.Path.{sym, ap, ◌∙◌}
-use mathlib.Core.Bool.{true, false}
-use mathlib.Core.List.{[]}
-use Rattle.kept.specs.declared.Keeping.{Keeping}
+use borrow.Author.Rules.{rules}
+use native.Mathlib.Omega.{arith}
+use lib.ListN.{length}
+use mathlib.Core.Path.{◌≡◌, sym, ap, ◌∙◌}
+use mathlib.Core.List.{[], map}
 use Rattle.kept.specs.declared.Kept.{Kept}
-use Prim.Native.Nat.{ℕ}
-use Rattle.refusals.specs.Outcome.{Outcome, answer, outcome_of}
+use Rattle.kept.specs.Told.{to_slot, to_dropped}
+use Rattle.refusals.specs.Outcome.{outcome_of}
 use Rattle.receiver.specs.New.{fresh_of}
-use Rattle.kept.specs.declared.Slot.{Slot}
-use Rattle.kept.specs.Keep.{with_slot, dropped_at}
-use Rattle.kept.specs.Told.{to_keeping, to_dropped}
 use Rattle.kept.proofs.Calls.{drop_is, drop_slot}
-use Rattle.kept.proofs.Flags.{slot_kept}
+use Rattle.kept.proofs.Flags.{slot_kept, slots_same}
+use Rattle.kept.proofs.Keepings.{beside_is, written, drop_ok, drop_err}
 use Rattle.kept.proofs.Kept.drop_name.Goals as goal
+use Rattle.kept.proofs.Kept.drop_name.Goals.{in-Ok, in_default, then-has_other_flag, else-has_other_flag}
 
-pub put-requires : goal.put-requires
-put-requires c =
-    let a = c.args in (
-      drop_slot a.self a.lent.now a.name.now c.lent_refusal-refusal.ensures c.find.ensures c.placed.ensures _ (ap outcome_of c.in-Ok.is),
-      rw c.free.ensures (slot_kept [] (fresh_of 0)),
-    )
-
-pub returns-in-Ok : goal.returns-in-Ok
-returns-in-Ok c =
+pub offset_bounds-kept-place : goal.offset_bounds-kept-place
+offset_bounds-kept-place c =
     let a = c.args in
-    ap {A = Kept} {B = Keeping} (λ k. record { ok = true; refusal = 0; place = c.in-Ok.place; kept = k }) c.put.ensures
-    ∙ ap (λ (s : Slot). to_keeping (answer c.in-Ok.place) (with_slot a.self c.in-Ok.place s)) c.free.ensures
-    ∙ ap (λ (x : Outcome ℕ). to_dropped (dropped_at x a.self)) (sym (ap outcome_of c.in-Ok.is))
-    ∙ ap to_dropped (drop_is a.self a.lent.now a.name.now c.lent_refusal-refusal.ensures c.find.ensures c.placed.ensures)
+    let e : length a.self.slots ≡ 8 = search rules in
+    omega (arith, drop_slot a.self a.lent.now a.name.now c.lent_refusal-refusal.ensures c.find.ensures c.placed-placed.ensures _ (ap outcome_of c.in-Ok.is))
 
-pub returns-in-Err : goal.returns-in-Err
-returns-in-Err c =
+pub bounds-kept-place : goal.bounds-kept-place
+bounds-kept-place c =
     let a = c.args in
-    ap {A = ℕ} {B = Keeping} (λ n. record { ok = false; refusal = n; place = 0; kept = a.self }) c.from.ensures
-    ∙ ap (λ (x : Outcome ℕ). to_dropped (dropped_at x a.self)) (sym (ap outcome_of c.in-Err.is))
-    ∙ ap to_dropped (drop_is a.self a.lent.now a.name.now c.lent_refusal-refusal.ensures c.find.ensures c.placed.ensures)
+    let e : length a.self.slots ≡ 8 = search rules in
+    omega (arith, drop_slot a.self a.lent.now a.name.now c.lent_refusal-refusal.ensures c.find.ensures c.placed-placed.ensures _ (ap outcome_of c.in-Ok.is))
+
+pub returns : goal.returns
+returns c =
+    let a = c.args in
+    let same : c.match-placed.placed ≡ c.placed-placed.result = elim c.match-placed.branch [ in-Ok w ↦ w.placed-is ∙ sym w.in-Ok.is | in_default w ↦ w.placed-is ] in
+    beside_is c.match-placed.kept same c.is_ok.ensures.value c.err.ensures.value c.code.ensures c.unwrap_or.ensures
+    ∙ elim c.match-placed.branch [
+      | in-Ok w ↦ let flags : w.if-has_other_flag.kept.slots ≡ map to_slot a.self.slots =
+      elim w.if-has_other_flag.branch [
+        then-has_other_flag v ↦ ap (λ (k : Kept). k.slots) (v.kept-is ∙ v.shown-kept.ensures)
+        | else-has_other_flag v ↦ ap (λ (k : Kept). k.slots) v.kept-is ∙ sym (slots_same 0 a.self.slots (sym w.has_other_flag.ensures ∙ v.if-has_other_flag.false))
+      ] in
+      drop_ok a.self w.in-Ok.is (written a.self w.if-has_other_flag.kept _ w.kept-is flags (rw w.free.ensures (slot_kept [] (fresh_of 0)))) w.free.ensures
+      | in_default w ↦ drop_err a.self w.in_default.is w.kept-is
+    ]
+    ∙ ap to_dropped (drop_is a.self a.lent.now a.name.now c.lent_refusal-refusal.ensures c.find.ensures c.placed-placed.ensures)

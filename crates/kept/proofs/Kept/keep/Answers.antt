@@ -3,59 +3,63 @@
 use borrow.Author.Rules.{rules}
 use native.Mathlib.Omega.{arith}
 use mathlib.Core.Path.{◌≡◌, sym, ap, ap₂, ◌∙◌}
-use mathlib.Core.Bool.{true, false}
-use mathlib.Core.List.{List}
+use mathlib.Core.List.{List, map}
 use Rattle.kept.specs.declared.Kept.{Kept}
+use Rattle.kept.specs.Told.{to_slot, to_keeping_with}
 use Prim.Native.Nat.{ℕ, max}
 use lib.ListN.{length}
-use Rattle.refusals.specs.Outcome.{Outcome, answer, outcome_of}
+use Rattle.refusals.specs.Outcome.{outcome_of}
 use Rattle.kept.specs.declared.Keeping.{Keeping}
-use Rattle.kept.specs.declared.Slot.{Slot}
-use Rattle.kept.specs.Keep.{with_slot, kept_at}
-use Rattle.kept.specs.Told.{to_keeping, to_keeping_with}
 use Rattle.kept.proofs.Calls.{keep_is, keep_fits, keep_name}
-use Rattle.kept.proofs.Flags.{slot_kept}
+use Rattle.kept.proofs.Flags.{slot_kept, slots_same}
+use Rattle.kept.proofs.Keepings.{beside_is, written, keep_ok, keep_err}
 use Rattle.kept.proofs.Kept.keep.Goals as goal
-
-pub copy_in-requires : goal.copy_in-requires
-copy_in-requires c =
-    let a = c.args in
-    let checked = c.larger-refusal.ensures ∙ ap₂ max c.refusal.ensures c.lent_refusal-kept.ensures in
-    let found = ap outcome_of c.in-Ok.is in
-    let e : length a.self.slots ≡ 8 = search rules in
-    let fits = keep_fits a.self a.receiver a.store.now a.lent.now a.name.now checked c.place_for.ensures c.placed.ensures _ found in
-    (omega (arith, fits.slot), fits.lent, fits.store)
+use Rattle.kept.proofs.Kept.keep.Goals.{in-Ok, in_default, then-has_other_flag, else-has_other_flag}
 
 pub named-requires : goal.named-requires
 named-requires c =
     let a = c.args in
-    let checked = c.larger-refusal.ensures ∙ ap₂ max c.refusal.ensures c.lent_refusal-kept.ensures in
-    let found = ap outcome_of c.in-Ok.is in
-    keep_name a.self a.receiver a.store.now a.lent.now a.name.now checked c.place_for.ensures c.placed.ensures _ found
+    let checked = c.larger-refusal.ensures ∙ ap₂ max c.refusal-state.ensures c.lent_refusal.ensures in
+    keep_name a.self a.receiver a.store.now a.lent.now a.name.now checked c.place_for.ensures c.placed-placed.ensures _ (ap outcome_of c.in-Ok.is)
 
-pub put-requires : goal.put-requires
-put-requires c =
+pub offset_bounds-kept-place : goal.offset_bounds-kept-place
+offset_bounds-kept-place c =
     let a = c.args in
-    let checked = c.larger-refusal.ensures ∙ ap₂ max c.refusal.ensures c.lent_refusal-kept.ensures in
-    let found = ap outcome_of c.in-Ok.is in
-    let fits = keep_fits a.self a.receiver a.store.now a.lent.now a.name.now checked c.place_for.ensures c.placed.ensures _ found in
-    (fits.slot, rw c.named.ensures (slot_kept a.name.now a.receiver))
+    let checked = c.larger-refusal.ensures ∙ ap₂ max c.refusal-state.ensures c.lent_refusal.ensures in
+    let e : length a.self.slots ≡ 8 = search rules in
+    omega (arith, (keep_fits a.self a.receiver a.store.now a.lent.now a.name.now checked c.place_for.ensures c.placed-placed.ensures _ (ap outcome_of c.in-Ok.is)).slot)
 
-pub returns-in-Ok : goal.returns-in-Ok
-returns-in-Ok c =
+pub bounds-kept-place : goal.bounds-kept-place
+bounds-kept-place c =
     let a = c.args in
-    let checked = c.larger-refusal.ensures ∙ ap₂ max c.refusal.ensures c.lent_refusal-kept.ensures in
-    let found = ap outcome_of c.in-Ok.is in
-    ap₂ {A = Keeping} {B = List ℕ} {C = Keeping × List ℕ} (λ x y. (x, y))
-    (ap {A = Kept} {B = Keeping} (λ k. record { ok = true; refusal = 0; place = c.in-Ok.place; kept = k }) c.put.ensures ∙ ap (λ (s : Slot). to_keeping (answer c.in-Ok.place) (with_slot a.self c.in-Ok.place s)) c.named.ensures) c.copy_in.ensures
-    ∙ ap (λ (x : Outcome ℕ). to_keeping_with (kept_at x a.self a.receiver a.store.now a.lent.now a.name.now)) (sym found)
-    ∙ ap to_keeping_with (keep_is a.self a.receiver a.store.now a.lent.now a.name.now checked c.place_for.ensures c.placed.ensures)
+    let checked = c.larger-refusal.ensures ∙ ap₂ max c.refusal-state.ensures c.lent_refusal.ensures in
+    let e : length a.self.slots ≡ 8 = search rules in
+    omega (arith, (keep_fits a.self a.receiver a.store.now a.lent.now a.name.now checked c.place_for.ensures c.placed-placed.ensures _ (ap outcome_of c.in-Ok.is)).slot)
 
-pub returns-in-Err : goal.returns-in-Err
-returns-in-Err c =
+pub copy_in-requires : goal.copy_in-requires
+copy_in-requires c =
     let a = c.args in
-    let checked = c.larger-refusal.ensures ∙ ap₂ max c.refusal.ensures c.lent_refusal-kept.ensures in
-    ap {A = Keeping} {B = Keeping × List ℕ} (λ x. (x, a.lent.now))
-    (ap {A = ℕ} {B = Keeping} (λ n. record { ok = false; refusal = n; place = 0; kept = a.self }) c.from.ensures)
-    ∙ ap (λ (x : Outcome ℕ). to_keeping_with (kept_at x a.self a.receiver a.store.now a.lent.now a.name.now)) (sym (ap outcome_of c.in-Err.is))
-    ∙ ap to_keeping_with (keep_is a.self a.receiver a.store.now a.lent.now a.name.now checked c.place_for.ensures c.placed.ensures)
+    let checked = c.larger-refusal.ensures ∙ ap₂ max c.refusal-state.ensures c.lent_refusal.ensures in
+    let e : length a.self.slots ≡ 8 = search rules in
+    let fits = keep_fits a.self a.receiver a.store.now a.lent.now a.name.now checked c.place_for.ensures c.placed-placed.ensures _ (ap outcome_of c.in-Ok.is) in
+    (omega (arith, fits.slot), fits.lent, fits.store)
+
+pub returns : goal.returns
+returns c =
+    let a = c.args in
+    let checked = c.larger-refusal.ensures ∙ ap₂ max c.refusal-state.ensures c.lent_refusal.ensures in
+    let same : c.match-placed.placed ≡ c.placed-placed.result = elim c.match-placed.branch [ in-Ok w ↦ w.placed-is ∙ sym w.in-Ok.is | in_default w ↦ w.placed-is ] in
+    ap {A = Keeping} {B = Keeping × List ℕ} (λ x. (x, c.match-placed.lent))
+    (beside_is c.match-placed.kept same c.is_ok.ensures.value c.err.ensures.value c.code.ensures c.unwrap_or.ensures)
+    ∙ elim c.match-placed.branch [
+      | in-Ok w ↦ let flags : w.if-has_other_flag.kept.slots ≡ map to_slot a.self.slots =
+      elim w.if-has_other_flag.branch [
+        then-has_other_flag v ↦ ap (λ (k : Kept). k.slots) (v.kept-is ∙ v.shown-kept.ensures)
+        | else-has_other_flag v ↦ ap (λ (k : Kept). k.slots) v.kept-is ∙ sym (slots_same 0 a.self.slots (sym w.has_other_flag.ensures ∙ v.if-has_other_flag.false))
+      ] in
+      keep_ok a.self a.receiver a.store.now a.lent.now a.name.now w.in-Ok.is
+      (written a.self w.if-has_other_flag.kept _ w.kept-is flags (rw w.named.ensures (slot_kept a.name.now a.receiver)))
+      w.named.ensures (w.lent-is ∙ w.copy_in.ensures)
+      | in_default w ↦ keep_err a.self a.receiver a.store.now a.lent.now a.name.now w.in_default.is w.kept-is w.lent-is
+    ]
+    ∙ ap to_keeping_with (keep_is a.self a.receiver a.store.now a.lent.now a.name.now checked c.place_for.ensures c.placed-placed.ensures)
