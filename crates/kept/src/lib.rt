@@ -237,12 +237,12 @@ impl Kept {
         self.slots.iter().any(|slot| 1 < slot.receiver.overflow)
     }
 
-    // The kept states with flags that are 0 or 1.
-    fn shown(&self) -> Kept
-        ensures { result ≡ to_kept self.now }
+    // Makes all flags 0 or 1. Where they are already, nothing is written: the caller reads the struct by words right after a call.
+    fn show(&mut self)
+        ensures { self.new ≡ to_kept self.old }
     {
-        Kept {
-            slots: self.slots.map(|slot| slot.shown()),
+        if self.has_other_flag() {
+            self.slots = self.slots.map(|slot| slot.shown());
         }
     }
 
@@ -255,9 +255,7 @@ impl Kept {
         let placed = placed(refusal, name.len(), Refusal::Kept, self.place_for(name));
         let mut kept = self;
         if let Ok(place) = placed {
-            if self.has_other_flag() {
-                kept = self.shown();
-            }
+            kept.show();
             kept.slots[place] = Slot::named(name, receiver);
             copy_in(lent, place, store);
         }
@@ -293,9 +291,7 @@ impl Kept {
         let placed = placed(refusal, name.len(), Refusal::Name, self.find(name));
         let mut kept = self;
         if let Ok(place) = placed {
-            if self.has_other_flag() {
-                kept = self.shown();
-            }
+            kept.show();
             kept.slots[place] = Slot::free();
         }
         Keeping {

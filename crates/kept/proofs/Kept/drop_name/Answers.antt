@@ -13,7 +13,7 @@ use Rattle.kept.proofs.Calls.{drop_is, drop_slot}
 use Rattle.kept.proofs.Flags.{slot_kept, slots_same}
 use Rattle.kept.proofs.Keepings.{beside_is, written, drop_ok, drop_err}
 use Rattle.kept.proofs.Kept.drop_name.Goals as goal
-use Rattle.kept.proofs.Kept.drop_name.Goals.{in-Ok, in_default, then-has_other_flag, else-has_other_flag}
+use Rattle.kept.proofs.Kept.drop_name.Goals.{in-Ok, in_default}
 
 pub offset_bounds-kept-place : goal.offset_bounds-kept-place
 offset_bounds-kept-place c =
@@ -33,12 +33,7 @@ returns c =
     let same : c.match-placed.placed ≡ c.placed-placed.result = elim c.match-placed.branch [ in-Ok w ↦ w.placed-is ∙ sym w.in-Ok.is | in_default w ↦ w.placed-is ] in
     beside_is c.match-placed.kept same c.is_ok.ensures.value c.err.ensures.value c.code.ensures c.unwrap_or.ensures
     ∙ elim c.match-placed.branch [
-      | in-Ok w ↦ let flags : w.if-has_other_flag.kept.slots ≡ map to_slot a.self.slots =
-      elim w.if-has_other_flag.branch [
-        then-has_other_flag v ↦ ap (λ (k : Kept). k.slots) (v.kept-is ∙ v.shown-kept.ensures)
-        | else-has_other_flag v ↦ ap (λ (k : Kept). k.slots) v.kept-is ∙ sym (slots_same 0 a.self.slots (sym w.has_other_flag.ensures ∙ v.if-has_other_flag.false))
-      ] in
-      drop_ok a.self w.in-Ok.is (written a.self w.if-has_other_flag.kept _ w.kept-is flags (rw w.free.ensures (slot_kept [] (fresh_of 0)))) w.free.ensures
+      | in-Ok w ↦ drop_ok a.self w.in-Ok.is (written a.self w.show.new.self _ w.kept-is (ap (λ (k : Kept). k.slots) w.show.ensures) (rw w.free.ensures (slot_kept [] (fresh_of 0)))) w.free.ensures
       | in_default w ↦ drop_err a.self w.in_default.is w.kept-is
     ]
     ∙ ap to_dropped (drop_is a.self a.lent.now a.name.now c.lent_refusal-refusal.ensures c.find.ensures c.placed-placed.ensures)

@@ -14,7 +14,7 @@ use Rattle.kept.proofs.Calls.{keep_is, keep_fits, keep_name}
 use Rattle.kept.proofs.Flags.{slot_kept, slots_same}
 use Rattle.kept.proofs.Keepings.{beside_is, written, keep_ok, keep_err}
 use Rattle.kept.proofs.Kept.keep.Goals as goal
-use Rattle.kept.proofs.Kept.keep.Goals.{in-Ok, in_default, then-has_other_flag, else-has_other_flag}
+use Rattle.kept.proofs.Kept.keep.Goals.{in-Ok, in_default}
 
 pub named-requires : goal.named-requires
 named-requires c =
@@ -52,13 +52,8 @@ returns c =
     ap {A = Keeping} {B = Keeping × List ℕ} (λ x. (x, c.match-placed.lent))
     (beside_is c.match-placed.kept same c.is_ok.ensures.value c.err.ensures.value c.code.ensures c.unwrap_or.ensures)
     ∙ elim c.match-placed.branch [
-      | in-Ok w ↦ let flags : w.if-has_other_flag.kept.slots ≡ map to_slot a.self.slots =
-      elim w.if-has_other_flag.branch [
-        then-has_other_flag v ↦ ap (λ (k : Kept). k.slots) (v.kept-is ∙ v.shown-kept.ensures)
-        | else-has_other_flag v ↦ ap (λ (k : Kept). k.slots) v.kept-is ∙ sym (slots_same 0 a.self.slots (sym w.has_other_flag.ensures ∙ v.if-has_other_flag.false))
-      ] in
-      keep_ok a.self a.receiver a.store.now a.lent.now a.name.now w.in-Ok.is
-      (written a.self w.if-has_other_flag.kept _ w.kept-is flags (rw w.named.ensures (slot_kept a.name.now a.receiver)))
+      | in-Ok w ↦ keep_ok a.self a.receiver a.store.now a.lent.now a.name.now w.in-Ok.is
+      (written a.self w.show.new.self _ w.kept-is (ap (λ (k : Kept). k.slots) w.show.ensures) (rw w.named.ensures (slot_kept a.name.now a.receiver)))
       w.named.ensures (w.lent-is ∙ w.copy_in.ensures)
       | in_default w ↦ keep_err a.self a.receiver a.store.now a.lent.now a.name.now w.in_default.is w.kept-is w.lent-is
     ]
