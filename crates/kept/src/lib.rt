@@ -6,7 +6,7 @@ ghost use Rattle.std.proofs.lemmas.List.Edits.{sets};
 ghost use Rattle.refusals.specs.Outcome.{number, outcome_of};
 ghost use Rattle.receiver.specs.Join.{code_of};
 ghost use Rattle.kept.specs.Keep.{name_ok, is_under, first_from, place_under, place_for, placed, slot_of, free_slot, with_slot, none_kept, start_of, part_of, size_refusal, refusal_in, kept_refusal, lent_refusal, keep_of, return_of, drop_of};
-ghost use Rattle.kept.specs.Told.{is_place, has_other_flag, to_slot, to_kept, to_keeping_with, to_dropped, return_after};
+ghost use Rattle.kept.specs.Told.{beside, is_place, has_other_flag, to_slot, to_kept, to_keeping_with, to_dropped, return_after};
 
 use receiver::{Reassembler, Stored, Tallies};
 use refusals::Refusal;
@@ -246,35 +246,48 @@ impl Kept {
         }
     }
 
-    // Keeps a receiver's state under a name, and its whole store in the lent bytes.
-    pub fn keep(self, receiver: Reassembler, store: &[u8], lent: &mut [u8], name: &[u8]) -> Keeping
-        ensures { (result, lent.new) ≡ to_keeping_with (keep_of self receiver store.now lent.old name.now) }
+    // What a keep or a drop hands back, where it has written no slot.
+    fn answered(&self, placed: Result<usize, Refusal>) -> Keeping
+        ensures { result ≡ beside (outcome_of placed) self.now }
     {
-        let state = receiver.state.refusal(store.len());
-        let refusal = larger(state, self.lent_refusal(lent.len()));
-        let placed = placed(refusal, name.len(), Refusal::Kept, self.place_for(name));
-        let mut kept = self;
-        if let Ok(place) = placed {
-            kept.show();
-            kept.slots[place] = Slot::named(name, receiver);
-            copy_in(lent, place, store);
-        }
         Keeping {
             ok: placed.is_ok(),
             refusal: code(placed.err()),
             place: placed.unwrap_or(0),
-            kept,
+            kept: *self,
         }
+    }
+
+    // Keeps a receiver's state under a name, and its whole store in the lent bytes.
+    pub fn keep(
+        &self,
+        receiver: Reassembler,
+        store: &[u8],
+        lent: &mut [u8],
+        name: &[u8],
+    ) -> Keeping
+        ensures { (result, lent.new) ≡ to_keeping_with (keep_of self.now receiver store.now lent.old name.now) }
+    {
+        let state = receiver.state.refusal(store.len());
+        let refusal = larger(state, self.lent_refusal(lent.len()));
+        let placed = placed(refusal, name.len(), Refusal::Kept, self.place_for(name));
+        let mut keeping = self.answered(placed);
+        if let Ok(place) = placed {
+            keeping.kept.show();
+            keeping.kept.slots[place] = Slot::named(name, receiver);
+            copy_in(lent, place, store);
+        }
+        keeping
     }
 
     // The state that is kept under a name, and its bytes to the store. The name stays kept.
     pub fn return_to(
-        self,
+        &self,
         store: &mut [u8],
         lent: &[u8],
         name: &[u8],
     ) -> Result<Reassembler, Refusal>
-        ensures { return_after result store.new ≡ return_of self store.old lent.now name.now }
+        ensures { return_after result store.new ≡ return_of self.now store.old lent.now name.now }
     {
         let size = size_refusal(store.len(), Reassembler::RX_BUFFER);
         let refusal = larger(size, self.lent_refusal(lent.len()));
@@ -284,21 +297,16 @@ impl Kept {
     }
 
     // Makes the slot of a name free. No lent byte is written.
-    pub fn drop_name(self, lent: &[u8], name: &[u8]) -> Keeping
-        ensures { result ≡ to_dropped (drop_of self lent.now name.now) }
+    pub fn drop_name(&self, lent: &[u8], name: &[u8]) -> Keeping
+        ensures { result ≡ to_dropped (drop_of self.now lent.now name.now) }
     {
         let refusal = self.lent_refusal(lent.len());
         let placed = placed(refusal, name.len(), Refusal::Name, self.find(name));
-        let mut kept = self;
+        let mut keeping = self.answered(placed);
         if let Ok(place) = placed {
-            kept.show();
-            kept.slots[place] = Slot::free();
+            keeping.kept.show();
+            keeping.kept.slots[place] = Slot::free();
         }
-        Keeping {
-            ok: placed.is_ok(),
-            refusal: code(placed.err()),
-            place: placed.unwrap_or(0),
-            kept,
-        }
+        keeping
     }
 }
