@@ -242,7 +242,9 @@ impl Kept {
         ensures { self.new ≡ to_kept self.old }
     {
         if self.has_other_flag() {
-            self.slots = self.slots.map(|slot| slot.shown());
+            for slot in self.slots.iter_mut() {
+                *slot = slot.shown();
+            }
         }
     }
 
