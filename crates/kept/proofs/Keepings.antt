@@ -1,18 +1,16 @@
 -- The struct that a keep or a drop hands back, from the place of the name or its refusal.
 -- Assumes nothing.
 use mathlib.Core.Path.{◌≡◌, refl, sym, ap, ap₂, ◌∙◌}
-use mathlib.Core.Bool.{Bool, true, false}
-use mathlib.Core.List.{List, map}
+use mathlib.Core.Bool.{Bool, true}
+use mathlib.Core.List.{List}
 use lib.ListN.{set}
 use Prim.Native.Nat.{ℕ}
-use lib.Seq.{sets}
 use Rattle.std.proofs.Common.{Option, Result, Ok, Err}
 use Rattle.std.specs.Result.{is_ok, result_err, result_unwrap_or}
-use Rattle.refusals.specs.Outcome.{Outcome, refused, answer, outcome_of}
+use Rattle.refusals.specs.Outcome.{Outcome, answer, outcome_of}
 use Rattle.refusals.specs.declared.Refusal.{Refusal}
 use Rattle.receiver.specs.Join.{code_of}
-use Rattle.receiver.specs.declared.Reassembler.{Reassembler}
-use Rattle.kept.specs.Keep.{slot_of, free_slot, with_slot, start_of, kept_at, dropped_at}
+use Rattle.kept.specs.Keep.{with_slot}
 use Rattle.kept.specs.Told.{beside, to_slot, to_kept, to_keeping}
 use Rattle.kept.specs.declared.Keeping.{Keeping}
 use Rattle.kept.specs.declared.Kept.{Kept}

@@ -261,13 +261,7 @@ impl Kept {
     }
 
     // Keeps a receiver's state under a name, and its whole store in the lent bytes.
-    pub fn keep(
-        &self,
-        receiver: Reassembler,
-        store: &[u8],
-        lent: &mut [u8],
-        name: &[u8],
-    ) -> Keeping
+    pub fn keep(&self, receiver: Reassembler, store: &[u8], lent: &mut [u8], name: &[u8]) -> Keeping
         ensures { (result, lent.new) ≡ to_keeping_with (keep_of self.now receiver store.now lent.old name.now) }
     {
         let state = receiver.state.refusal(store.len());

@@ -5,14 +5,13 @@ use native.Mathlib.Omega.{arith}
 use lib.ListN.{length}
 use Prim.Native.Nat.{ℕ}
 use mathlib.Core.Path.{◌≡◌, sym, ap, ◌∙◌}
-use mathlib.Core.List.{[], map}
-use Rattle.kept.specs.declared.Kept.{Kept}
+use mathlib.Core.List.{[]}
 use Rattle.kept.specs.Keep.{dropped_at}
 use Rattle.kept.specs.Told.{beside, to_dropped}
 use Rattle.refusals.specs.Outcome.{Outcome, outcome_of}
 use Rattle.receiver.specs.New.{fresh_of}
 use Rattle.kept.proofs.Calls.{drop_is, drop_slot}
-use Rattle.kept.proofs.Flags.{slot_kept, slots_same}
+use Rattle.kept.proofs.Flags.{slot_kept}
 use Rattle.kept.proofs.Keepings.{written}
 use Rattle.kept.proofs.Kept.drop_name.Goals as goal
 

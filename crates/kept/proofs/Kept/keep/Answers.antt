@@ -3,8 +3,7 @@
 use borrow.Author.Rules.{rules}
 use native.Mathlib.Omega.{arith}
 use mathlib.Core.Path.{◌≡◌, sym, ap, ap₂, ◌∙◌}
-use mathlib.Core.List.{List, map}
-use Rattle.kept.specs.declared.Kept.{Kept}
+use mathlib.Core.List.{List}
 use Rattle.kept.specs.Keep.{kept_at}
 use Rattle.kept.specs.Told.{beside, to_keeping_with}
 use Prim.Native.Nat.{ℕ, max}
@@ -12,7 +11,7 @@ use lib.ListN.{length}
 use Rattle.refusals.specs.Outcome.{Outcome, outcome_of}
 use Rattle.kept.specs.declared.Keeping.{Keeping}
 use Rattle.kept.proofs.Calls.{keep_is, keep_fits, keep_name}
-use Rattle.kept.proofs.Flags.{slot_kept, slots_same}
+use Rattle.kept.proofs.Flags.{slot_kept}
 use Rattle.kept.proofs.Keepings.{written}
 use Rattle.kept.proofs.Kept.keep.Goals as goal
 
