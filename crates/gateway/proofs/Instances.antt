@@ -109,7 +109,7 @@ module _ {mended : Bool} {m field : ℕ} (a : Ample m field) {command : ℕ} {d 
   report_able : Sendable report.message field m
   report_able =
       let b = codec_back mended c l in
-      record { field_ok_holds = a.field_ok_holds; mask_ok_holds = a.mask_ok_holds; Some = b.not_empty; short = b.fits; first_low = b.first_low; room = a.room (length b.message) b.fits }
+      record { field_ok_holds = a.field_ok_holds; mask_ok_holds = a.mask_ok_holds; some = b.not_empty; short = b.fits; first_low = b.first_low; room = a.room (length b.message) b.fits }
 
   pub report_message : Message mended m report (lines_of m report)
   report_message =
@@ -149,7 +149,7 @@ raw_high = refl
 module _ (m : ℕ) (ok : mask_ok m ≡ true) where
   three_able : Sendable (0x20 ∷ raw) 3 m
   three_able =
-      record { field_ok_holds = refl; mask_ok_holds = ok; Some = omega arith; short = omega arith; first_low = omega arith; room = omega (arith, three_count, most_three m (mask_top m ok)) }
+      record { field_ok_holds = refl; mask_ok_holds = ok; some = omega arith; short = omega arith; first_low = omega arith; room = omega (arith, three_count, most_three m (mask_top m ok)) }
 
   pub three_message : {mended : Bool} → Message mended m three (lines_of m three)
   three_message =
@@ -190,7 +190,7 @@ many_able =
     record {
       field_ok_holds = ample_80.field_ok_holds;
       mask_ok_holds = ample_80.mask_ok_holds;
-      Some = omega arith;
+      some = omega arith;
       short = omega (arith, highs_size);
       first_low = omega arith;
       room = ample_80.room (length (0x20 ∷ highs)) (omega (arith, highs_size));

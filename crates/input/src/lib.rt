@@ -9,6 +9,9 @@ use std::io::Read;
 use texts::number::decimal;
 use texts::part::find;
 
+// The longest line.
+pub const LINE_ROOM: usize = 16384;
+
 // How far reading has come.
 #[derive(Clone, Copy, Debug, PartialEq, Eq)]
 pub enum Reached {

@@ -3,11 +3,12 @@
 use mathlib.Core.Path.{◌≡◌, refl, ap, ◌∙◌}
 use mathlib.Core.Bool.{Bool, true, false}
 use mathlib.Core.List.{List, [], map}
+use mathlib.Core.Logic.{◌⊎◌, inl, inr}
 use Rattle.std.proofs.Common.{None, Some}
 use Prim.Native.Nat.{ℕ, ◌+◌, ◌-◌, ◌*◌, ◌≤◌, ◌<◌}
 use native.Mathlib.Omega.{arith}
 use lib.ListN.{length, get_or, take, drop, length-take, length-drop}
-use native.Mathlib.Nat.{sub-zero, add-mul}
+use native.Mathlib.Nat.{add-mul}
 use lib.Dec.{leb}
 use borrow.Author.Tests.{le-leb, lt-leb}
 use Rattle.laws.specs.Pick.{pick}
@@ -18,11 +19,9 @@ use Rattle.laws.proofs.WroteLaws.{wrote_none, wrote_then}
 use Rattle.ax25_token.specs.declared.Call.{Call}
 use Rattle.ax25_token.specs.Call.{text_of}
 use Rattle.ax25_token.specs.Put.{cased_of}
-use Rattle.ax25_token.proofs.CallLaws.{text_front}
 use Rattle.ax25_token.proofs.PutLaws.{map_plain, map_up}
 use Rattle.ax25_address.specs.Address.{addr_call, heard_in}
 use Rattle.ax25_address.specs.Parse.{Parsed, fields_of, parse_of, count_of}
-use Rattle.ax25_address.specs.declared.parse.Digis.TheVariants.{Found}
 use Rattle.ax25_address.proofs.PlaceLaws.{Has, found_has}
 use Rattle.ax25.proofs.CoderLaws.{fields_none, heard_some, calls_some}
 use Rattle.texts.specs.Show.{shown}
@@ -31,19 +30,15 @@ use Rattle.monitor.specs.Monitor.{any_of, star_of, via_of, lined_of, lined_or, m
 
 -- ---- a star
 
-module _ (later : Bool) where
-  pub star_unheard : (heard : Bool) → heard ≡ false → star_of heard later ≡ []
+module _ (heard later : Bool) where
+  pub star_none : (heard ≡ true × later ≡ true) ⊎ heard ≡ false → star_of heard later ≡ []
   unfolding star_of pick
-  star_unheard heard e = rw e
+  star_none (inl e) = rw (e.0, e.1)
+  star_none (inr e) = rw e
 
-  pub star_later : (heard : Bool) → later ≡ true → star_of heard later ≡ []
+  pub star_last : heard ≡ true → later ≡ false → star_of heard later ≡ ascii "*"
   unfolding star_of pick
-  star_later true e = rw e
-  star_later false e = refl
-
-  pub star_last : (heard : Bool) → heard ≡ true → later ≡ false → star_of heard later ≡ ascii "*"
-  unfolding star_of pick
-  star_last heard e f = rw (e, f)
+  star_last e f = rw (e, f)
 
 -- ---- n address fields, of which d starts at the first
 
@@ -61,7 +56,7 @@ module _ (l n : ℕ) (d : List ℕ) where
   via_none e = rw (fields_none l n d e) wrote_none
 
   module _ (h : n ≡ 0 → ⊥) where
-    pub any_first : 0x80 ≤ get_or d l 0 → true ≡ any_of (map (heard_in l) (fields_of l n d))
+    pub any_first : 0x80 ≤ get_or d l 0 → leb 0x80 (get_or d l 0) ≡ any_of (map (heard_in l) (fields_of l n d))
     unfolding any_of
     any_first k = rw (heard_some l n d h, le-leb 0x80 (get_or d l 0) k)
 
@@ -85,7 +80,7 @@ behind_size d k = ap length (from_place d k) ∙ length-drop k d
 -- ---- a frame
 
 pub has_count : (l n : ℕ) (d : List ℕ) → Some n ≡ count_of (parse_of l d) → Has l d n
-has_count l n d e = found_has l d (Found n) e n refl
+has_count l n d e = found_has l d (Some n) e n refl
 
 -- where its parts stand
 pub record Sizes (l n size : ℕ) : Type 0 where
@@ -133,8 +128,9 @@ module _ (l n : ℕ) (d : List ℕ) (has : Has l d n) where
 -- ---- a call
 
 pub call_shown : (r : Call) (t : List ℕ) → text_of r ≡ t → r.len ≤ 10 → {b c : List ℕ} {at p : ℕ}
-    → Wrote b at (shown (take (r.len - 0) (drop 0 r.bytes))) c p → Wrote b at (shown t) c p × (p ≤ at + 60)
+    → Wrote b at (shown (take r.len r.bytes)) c p → Wrote b at (shown t) c p × (p ≤ at + 60)
+unfolding text_of
 call_shown r t e h w =
-    let front : take (r.len - 0) (drop 0 r.bytes) ≡ t = text_front r ∙ e in
-    let few : length t ≤ r.len = rw (← front) (rw sub-zero (omega (arith, length-take r.len r.bytes))) in
+    let front : take r.len r.bytes ≡ t = e in
+    let few : length t ≤ r.len = rw (← front) (omega (arith, length-take r.len r.bytes)) in
     (rw front at w, omega (arith, (rw front at w).next_is, shown_length t, few))

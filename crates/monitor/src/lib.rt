@@ -12,7 +12,7 @@ ghost use Rattle.texts.specs.Show.{shown};
 ghost use Rattle.monitor.specs.Monitor.{any_of, star_of, via_of, monitor_of};
 
 use ax25_address::address::addr_call;
-use ax25_address::parse::{Digis, addr_end, digipeaters};
+use ax25_address::parse::{addr_end, digipeaters};
 use bits_write::byte;
 use texts::show::put_shown;
 
@@ -22,9 +22,7 @@ fn put_call(f: &[u8], l: usize, up: bool, out: &mut [u8], at: usize) -> usize
     ensures { Wrote out.old at (shown (map (cased_of up) (addr_call l f.now))) out.new result × (result ≤ at + 60) }
 {
     let c = addr_call(f, l, up);
-    let bytes = c.bytes;
-    let n = c.len;
-    put_shown(out, at, &bytes[0..n])
+    put_shown(out, at, &c.bytes[..c.len])
 }
 
 // One of n address fields has its bit 80.
@@ -35,27 +33,22 @@ fn any_heard(f: &[u8], l: usize, n: usize) -> bool
     if n == 0 {
         return false;
     }
-    if 0x80 <= f[l] {
-        return true;
-    }
-    any_heard(&f[l + 1..], l, n - 1)
+    0x80 <= f[l] || any_heard(&f[l + 1..], l, n - 1)
 }
 
-// A star behind the last address field that has its bit 80. The next place.
+// A star after the last address field that has its bit 80. The next place.
 fn put_star(heard: bool, later: bool, out: &mut [u8], at: usize) -> usize
     requires { at < 2 ^ 60 }
     ensures { Wrote out.old at (star_of heard later) out.new result × (result ≤ at + 1) }
 {
-    if !heard {
-        return at;
+    if heard && !later {
+        byte(out, at, b'*')
+    } else {
+        at
     }
-    if later {
-        return at;
-    }
-    byte(out, at, b'*')
 }
 
-// The n digipeaters of which f starts at the first, each behind a comma. The next place.
+// The n digipeaters of which f starts at the first, each after a comma. The next place.
 fn put_via(f: &[u8], l: usize, n: usize, out: &mut [u8], at: usize) -> usize
     requires { (n ≤ 8) × (l ≤ 7) × (n * (l + 1) ≤ length f.now) × (length f.now < 2 ^ 60) × (at + n * 62 < 2 ^ 58) }
     ensures { Wrote out.old at (via_of (map (addr_call l) (fields_of l n f.now)) (map (heard_in l) (fields_of l n f.now))) out.new result × (result ≤ at + n * 62) }
@@ -90,7 +83,7 @@ pub fn put_monitor(command: u8, frame: &[u8], out: &mut [u8], at: usize) -> usiz
     ensures { Wrote out.old at (monitor_of (call_len command) frame.now) out.new result × (result ≤ at + length frame.now * 6 + 700) }
 {
     let l = ax25_address::record::call_len(command);
-    let Digis::Found(n) = digipeaters(frame, l) else {
+    let Some(n) = digipeaters(frame, l) else {
         return put_shown(out, at, frame);
     };
     put_frame(frame, l, n, out, at)

@@ -12,11 +12,11 @@ use Rattle.laws.specs.Pick.{pick}
 use Rattle.laws.specs.Text.{ascii}
 use Rattle.laws.specs.Wrote.{Wrote}
 use Rattle.laws.proofs.Cases.{pick_true, pick_false}
-use Rattle.refusals.specs.Outcome.{refused, answer}
+use Rattle.refusals.specs.Outcome.{refused, answer, number}
 use Rattle.kiss.specs.Codec.{Decoded, decode_of}
 use Rattle.kiss.specs.Told.{decoded_of, decode_into}
-use Rattle.kiss.specs.declared.Decoded as answered
-use Rattle.kiss.specs.declared.Decoded.TheVariants as variants
+use Rattle.std.proofs.Common.{Result, Ok, Err}
+use Rattle.refusals.specs.declared.Refusal.{Refusal}
 use Rattle.kiss.proofs.CodeBounds.{decode_command}
 use Rattle.kiss.proofs.TellLaws.{Handed, told_answer, told_refused}
 use Rattle.room.specs.Room.{most_decoded}
@@ -27,21 +27,14 @@ use Rattle.receiver.specs.declared.Reassembler.{Reassembler}
 use Rattle.ax25_address.specs.Types.{call_len}
 use Rattle.texts.specs.Hex.{bytes_of, read_of}
 use Rattle.texts.specs.Part.{before, behind}
-use Rattle.texts.specs.Say.{line_room, word_of, spelled_of, unread_line, read_or}
+use Rattle.texts.specs.Say.{line_room, spelled_of, unread_line, read_or}
 use Rattle.texts.specs.Show.{shown}
-use Rattle.texts.specs.declared.hex.Read.{Read}
-use Rattle.texts.specs.declared.hex.Read.TheVariants.{Bytes, NoDigit, Odd, TooLong}
+use Rattle.texts.specs.declared.hex.HexError.{HexError}
 use Rattle.texts.proofs.BackLaws.{above, before_past, line_end}
-use Rattle.texts.proofs.PartLaws.{piece_length}
-use Rattle.texts.proofs.SayLaws.{unread_by}
 use Rattle.monitor.specs.Monitor.{monitor_of}
 use Rattle.receive_lines.specs.Line.{readable_of, done_text, decoded_text, heard_text, line_text, left_by, line_left}
 
 -- ---- a finished message
-
-pub word_few : (command : ℕ) → length (word_of command) ≤ 17
-unfolding word_of
-word_few command = piece_length 124 command (ascii "ax25|long|generic")
 
 module _ (d : List ℕ) (command : ℕ) where
   pub readable_generic : command ≡ 2 → readable_of command d ≡ shown d
@@ -71,17 +64,17 @@ unfolding decoded_text
 done_back mended m r e h = rw e (done_line r.command r.bytes (decode_command mended m r e) h)
 
 -- the decoder's answer, with an output that every answer fits
-module _ (mended : Bool) (m out t : List ℕ) (r : answered.Decoded) (e : (decoded_of r, t) ≡ decode_into (decode_of mended m) out) where
-  pub decode_refused : most_decoded ≤ length out → (n : ℕ) → r ≡ variants.Refused n → decode_of mended m ≡ refused n
-  decode_refused room n told =
-      told_refused (λ d. d.bytes) (λ d. d.command) out t (decode_of mended m) n
-      (ap (λ (x : answered.Decoded). (decoded_of x, t)) (sym told) ∙ e)
+module _ (mended : Bool) (m out t : List ℕ) (r : Result (ℕ × ℕ) Refusal) (e : (decoded_of r, t) ≡ decode_into (decode_of mended m) out) where
+  pub decode_refused : most_decoded ≤ length out → (x : Refusal) → r ≡ Err x → decode_of mended m ≡ refused (number x)
+  decode_refused room x told =
+      told_refused (λ d. d.bytes) (λ d. d.command) out t (decode_of mended m) (number x)
+      (ap (λ (x : Result (ℕ × ℕ) Refusal). (decoded_of x, t)) (sym told) ∙ e)
       (λ q. q)
       (λ d q h z. absurd (omega (arith, h, room, decoded_fits mended m d q)))
 
-  pub decode_bytes : (command n : ℕ) → r ≡ variants.Bytes command n → Handed (λ d. d.bytes) (λ d. d.command) (decode_of mended m) (length out) t n command
+  pub decode_bytes : (command n : ℕ) → r ≡ Ok (command, n) → Handed (λ d. d.bytes) (λ d. d.command) (decode_of mended m) (length out) t n command
   decode_bytes command n told =
-      told_answer (λ d. d.bytes) (λ d. d.command) out t (decode_of mended m) n command (ap (λ (x : answered.Decoded). (decoded_of x, t)) (sym told) ∙ e)
+      told_answer (λ d. d.bytes) (λ d. d.command) out t (decode_of mended m) n command (ap (λ (x : Result (ℕ × ℕ) Refusal). (decoded_of x, t)) (sym told) ∙ e)
 
 -- ---- a frame
 
@@ -101,13 +94,12 @@ module _ (mended : Bool) (field number : ℕ) (r : Reassembler) (store line : Li
   unfolding line_text
   line_none h = pick_true _ _ (eq-eqb (length line) 0 h)
 
-  module _ (some : length line ≡ 0 → ⊥) (q : Read) (is : q ≡ read_of line_room line) where
-    pub line_unread : ((n : ℕ) → q ≡ Bytes n → ⊥) → line_text mended field number r store line ≡ unread_line number q
-    unfolding line_text
-    line_unread other =
-        pick_false _ _ (ne_eqb (length line) 0 some) ∙ rw (← is) (unread_by number _ q other)
+  module _ (some : length line ≡ 0 → ⊥) (q : Result ℕ HexError) (is : q ≡ read_of line_room line) where
+    pub line_unread : (x : HexError) → q ≡ Err x → line_text mended field number r store line ≡ unread_line number q
+    unfolding line_text read_or
+    line_unread x e = pick_false _ _ (ne_eqb (length line) 0 some) ∙ rw (← is, e)
 
-    pub line_heard : (n : ℕ) → q ≡ Bytes n → line_text mended field number r store line ≡ heard_text mended (push_tallied r store (bytes_of line) field).heard
+    pub line_heard : (n : ℕ) → q ≡ Ok n → line_text mended field number r store line ≡ heard_text mended (push_tallied r store (bytes_of line) field).heard
     unfolding line_text read_or
     line_heard n e = pick_false _ _ (ne_eqb (length line) 0 some) ∙ rw (← is, e)
 
@@ -116,18 +108,11 @@ module _ (field : ℕ) (r : Reassembler) (store line : List ℕ) where
   unfolding line_left
   left_none h = sym (pick_true _ _ (eq-eqb (length line) 0 h))
 
-  module _ (some : length line ≡ 0 → ⊥) (q : Read) (is : q ≡ read_of line_room line) where
-    left_other : (x : Read) → ((n : ℕ) → x ≡ Bytes n → ⊥) → left_by (r, store) (push_tallied r store (bytes_of line) field) x ≡ (r, store)
-    unfolding left_by
-    left_other (Bytes n) f = absurd (f n refl)
-    left_other NoDigit f = refl
-    left_other Odd f = refl
-    left_other TooLong f = refl
+  module _ (some : length line ≡ 0 → ⊥) (q : Result ℕ HexError) (is : q ≡ read_of line_room line) where
+    pub left_unread : (x : HexError) → q ≡ Err x → (r, store) ≡ line_left field r store line
+    unfolding line_left left_by
+    left_unread x e = sym (pick_false _ _ (ne_eqb (length line) 0 some) ∙ rw (← is, e))
 
-    pub left_unread : ((n : ℕ) → q ≡ Bytes n → ⊥) → (r, store) ≡ line_left field r store line
-    unfolding line_left
-    left_unread other = sym (pick_false _ _ (ne_eqb (length line) 0 some) ∙ rw (← is) (left_other q other))
-
-    pub left_heard : (n : ℕ) → q ≡ Bytes n → ((push_tallied r store (bytes_of line) field).receiver, (push_tallied r store (bytes_of line) field).store) ≡ line_left field r store line
+    pub left_heard : (n : ℕ) → q ≡ Ok n → ((push_tallied r store (bytes_of line) field).receiver, (push_tallied r store (bytes_of line) field).store) ≡ line_left field r store line
     unfolding line_left left_by
     left_heard n e = sym (pick_false _ _ (ne_eqb (length line) 0 some) ∙ rw (← is, e))

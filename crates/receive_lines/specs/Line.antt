@@ -1,6 +1,6 @@
 -- What `receive` says of a line, by the reading in which it decodes messages.
 -- Assumes nothing.
-use Rattle.std.specs.Prelude.{Bool, List, [], ◌∷◌, ◌++◌, ℕ, length, eqb}
+use Rattle.std.specs.Prelude.{Result, Ok, Err, Bool, List, [], ◌∷◌, ◌++◌, ℕ, length, eqb}
 use Rattle.laws.specs.Pick.{pick}
 use Rattle.laws.specs.Text.{ascii}
 use Rattle.refusals.specs.Outcome.{Outcome, refused, answer}
@@ -13,8 +13,7 @@ use Rattle.receiver.specs.declared.Reassembler.{Reassembler}
 use Rattle.texts.specs.Hex.{bytes_of, read_of}
 use Rattle.texts.specs.Say.{line_room, spelled_of, refusal_line, read_or}
 use Rattle.texts.specs.Show.{shown}
-use Rattle.texts.specs.declared.hex.Read.{Read}
-use Rattle.texts.specs.declared.hex.Read.TheVariants.{Bytes, NoDigit, Odd, TooLong}
+use Rattle.texts.specs.declared.hex.HexError.{HexError}
 use Rattle.monitor.specs.Monitor.{monitor_of}
 
 -- ---- a finished message
@@ -49,11 +48,9 @@ line_text mended field number r store line =
     (read_or number (heard_text mended (push_tallied r store (bytes_of line) field).heard) (read_of line_room line))
 
 -- the receiver and the store afterwards: as they were where no frame was read
-unfoldable pub left_by : Reassembler × List ℕ → After Reassembler → Read → Reassembler × List ℕ
-left_by before a (Bytes n) = (a.receiver, a.store)
-left_by before a NoDigit = before
-left_by before a Odd = before
-left_by before a TooLong = before
+unfoldable pub left_by : Reassembler × List ℕ → After Reassembler → Result ℕ HexError → Reassembler × List ℕ
+left_by before a (Ok n) = (a.receiver, a.store)
+left_by before a (Err e) = before
 
 unfoldable pub line_left : ℕ → Reassembler → List ℕ → List ℕ → Reassembler × List ℕ
 line_left field r store line =

@@ -2,21 +2,29 @@
 ghost use Rattle.std.specs.Prelude.{◌≡◌, ◌^◌, ◌≤◌, ◌<◌, length};
 ghost use Rattle.laws.specs.Wrote.{Wrote};
 ghost use Rattle.kiss.specs.Codec.{decode_of};
-ghost use Rattle.receiver.specs.Join.{heard_of};
+ghost use Rattle.receiver.specs.Join.{told_of, heard_of};
 ghost use Rattle.receiver.specs.Tally.{push_tallied};
 ghost use Rattle.room.specs.Room.{most_decoded};
 ghost use Rattle.texts.specs.Say.{digits_of};
 ghost use Rattle.receive_lines.specs.Line.{readable_of, done_text, decoded_text, heard_text, line_text, line_left};
 
 use bits_write::{byte, copy};
-use input::room;
-use kiss::Decoded;
+use input::LINE_ROOM;
 use monitor::put_monitor;
 use receiver::{Push, Reassembler};
-use texts::hex::{Read, put_hex, read_hex};
+use refusals::Refusal;
+use texts::hex::{put_hex, read_hex};
 use texts::part::front;
 use texts::say::{put_refusal, put_unread, put_word};
 use texts::show::put_shown;
+use texts::space::zeros;
+
+// How frames are read: the bytes of their field, and the original reading of messages or the mended one.
+#[derive(Clone, Copy, Debug, PartialEq, Eq)]
+pub struct Reading {
+    pub field: usize,
+    pub mended: bool,
+}
 
 // What is said, so many bytes of the output, and the receiver that a line leaves.
 #[derive(Clone, Copy)]
@@ -30,7 +38,7 @@ fn put_digits(data: &[u8], out: &mut [u8], at: usize) -> usize
     requires { (length «data».now < 2 ^ 50) × (at < 2 ^ 50) }
     ensures { Wrote out.old at (digits_of «data».now) out.new result × (result < 2 ^ 53) }
 {
-    if data.len() == 0 {
+    if data.is_empty() {
         return at;
     }
     let p = byte(out, at, b' ');
@@ -49,7 +57,7 @@ fn put_readable(command: u8, data: &[u8], out: &mut [u8], at: usize) -> usize
     put_monitor(command, data, out, at)
 }
 
-// The line that `send` takes, behind `done`, and a line that people read. Their length.
+// The line that `send` takes, after `done`, and a line that people read. Their length.
 fn put_done(command: u8, data: &[u8], out: &mut [u8]) -> usize
     requires { length «data».now < 2 ^ 50 }
     ensures { Wrote out.old 0 (done_text command «data».now) out.new result }
@@ -68,21 +76,37 @@ fn decoded(message: &[u8], data: &mut [u8], out: &mut [u8], mended: bool) -> usi
     ensures { Wrote out.old 0 (decoded_text (decode_of mended message.now)) out.new result }
 {
     match kiss::decode(message, mended, data) {
-        Decoded::Refused(n) => put_refusal(out, 0, n),
-        Decoded::Bytes(command, n) => put_done(command, front(data, n), out),
+        Ok((command, n)) => put_done(command, front(data, n), out),
+        Err(refusal) => put_refusal(out, 0, u8::from(refusal)),
+    }
+}
+
+// What a fragment comes to, with a message first in the receiver's store.
+fn pushed(push: Push, store: &[u8], data: &mut [u8], out: &mut [u8], mended: bool) -> usize
+    requires { (most_decoded ≤ length «data».old) × (length «data».old < 2 ^ 50) }
+    ensures { Wrote out.old 0 (heard_text mended (told_of push store.now)) out.new result }
+{
+    match push {
+        Push::Dropped(_) => copy(out, 0, b"dropped\n"),
+        Push::More => copy(out, 0, b"more\n"),
+        Push::Done(n) => decoded(front(store, n), data, out, mended),
     }
 }
 
 // What the receiver answers, with a message first in its store.
-fn told(answer: Push, store: &[u8], data: &mut [u8], out: &mut [u8], mended: bool) -> usize
+fn told(
+    answer: Result<Push, Refusal>,
+    store: &[u8],
+    data: &mut [u8],
+    out: &mut [u8],
+    mended: bool,
+) -> usize
     requires { (most_decoded ≤ length «data».old) × (length «data».old < 2 ^ 50) }
     ensures { Wrote out.old 0 (heard_text mended (heard_of answer store.now)) out.new result }
 {
     match answer {
-        Push::Refused(n) => put_refusal(out, 0, n),
-        Push::Dropped(_) => copy(out, 0, b"dropped\n"),
-        Push::More => copy(out, 0, b"more\n"),
-        Push::Done(n) => decoded(front(store, n), data, out, mended),
+        Ok(push) => pushed(push, store, data, out, mended),
+        Err(refusal) => put_refusal(out, 0, u8::from(refusal)),
     }
 }
 
@@ -91,22 +115,19 @@ fn heard(
     receiver: Reassembler,
     store: &mut [u8],
     frame: &[u8],
-    field: usize,
+    reading: Reading,
     data: &mut [u8],
     out: &mut [u8],
-    mended: bool,
 ) -> Step
     requires { (most_decoded ≤ length «data».old) × (length «data».old < 2 ^ 50) }
-    ensures { Wrote out.old 0 (heard_text mended (push_tallied receiver store.old frame.now field).heard) out.new result.size
-        × (result.receiver ≡ (push_tallied receiver store.old frame.now field).receiver)
-        × (store.new ≡ (push_tallied receiver store.old frame.now field).store) }
+    ensures { Wrote out.old 0 (heard_text reading.mended (push_tallied receiver store.old frame.now reading.field).heard) out.new result.size
+        × (result.receiver ≡ (push_tallied receiver store.old frame.now reading.field).receiver)
+        × (store.new ≡ (push_tallied receiver store.old frame.now reading.field).store) }
 {
-    let pushed = receiver.push(store, frame, field);
-    let answer = pushed.answer;
-    let next = pushed.receiver;
+    let pushed = receiver.push(store, frame, reading.field);
     Step {
-        size: told(answer, store, data, out, mended),
-        receiver: next,
+        size: told(pushed.answer, store, data, out, reading.mended),
+        receiver: pushed.receiver,
     }
 }
 
@@ -116,25 +137,24 @@ pub fn said(
     store: &mut [u8],
     line: &[u8],
     number: u64,
-    field: usize,
+    reading: Reading,
     data: &mut [u8],
     out: &mut [u8],
-    mended: bool,
 ) -> Step
     requires { (most_decoded ≤ length «data».old) × (length «data».old < 2 ^ 50) }
-    ensures { Wrote out.old 0 (line_text mended field number receiver store.old line.now) out.new result.size
-        × ((result.receiver, store.new) ≡ line_left field receiver store.old line.now) }
+    ensures { Wrote out.old 0 (line_text reading.mended reading.field number receiver store.old line.now) out.new result.size
+        × ((result.receiver, store.new) ≡ line_left reading.field receiver store.old line.now) }
 {
-    if line.len() == 0 {
+    if line.is_empty() {
         return Step { size: 0, receiver };
     }
-    let mut frame = room();
+    let mut frame: [u8; LINE_ROOM] = zeros();
     let read = read_hex(line, &mut frame);
-    let Read::Bytes(n) = read else {
-        return Step {
+    match read {
+        Ok(n) => heard(receiver, store, front(&frame, n), reading, data, out),
+        Err(_) => Step {
             size: put_unread(out, 0, number, read),
             receiver,
-        };
-    };
-    heard(receiver, store, front(&frame, n), field, data, out, mended)
+        },
+    }
 }

@@ -1,4 +1,5 @@
-// The kinds of lines. A new kind is a function, a name, a row of `run` or `call`, and one more in `KINDS`.
+// The kinds of lines. A new kind is a variant, one more in `KINDS` and `ALL`, a name, a row of `run` or `call`, and rows of `numbers` and `few`
+// where its line has any.
 ghost use Rattle.std.specs.Prelude.{◌≤◌, length};
 
 use crate::answer::{same_answer, same_counted, same_got, same_taken};
@@ -6,132 +7,175 @@ use codings::{decode, encode, preview, summary};
 use frame::Control;
 use lines::answer::{Outcome, same_bytes, same_number};
 use lines::field::{field, inputs, last, numbers, two_words};
-use texts::part::piece;
+
+// What a line is a record of.
+#[derive(Clone, Copy, Debug, PartialEq, Eq)]
+pub enum Kind {
+    Crc,
+    Push,
+    Bfi,
+    Text,
+    Take,
+    Digits,
+    Text7,
+    Val,
+    Count,
+    Fragment,
+    Frame,
+    History,
+    Encode,
+    Summary,
+    Decode,
+    Channel,
+    Preview,
+}
 
 // How many kinds there are.
 pub const KINDS: usize = 17;
 
-// Their names, in order.
-const NAMES: [u8; 106] =
-    *b"crc push bfi text take digits text7 val count fragment frame history encode summary decode channel preview";
+impl Kind {
+    // The kinds in order.
+    pub const ALL: [Kind; KINDS] = [
+        Kind::Crc,
+        Kind::Push,
+        Kind::Bfi,
+        Kind::Text,
+        Kind::Take,
+        Kind::Digits,
+        Kind::Text7,
+        Kind::Val,
+        Kind::Count,
+        Kind::Fragment,
+        Kind::Frame,
+        Kind::History,
+        Kind::Encode,
+        Kind::Summary,
+        Kind::Decode,
+        Kind::Channel,
+        Kind::Preview,
+    ];
+
+    // The word that a line of this kind starts with.
+    pub fn name(self) -> &'static [u8] {
+        match self {
+            Kind::Crc => b"crc",
+            Kind::Push => b"push",
+            Kind::Bfi => b"bfi",
+            Kind::Text => b"text",
+            Kind::Take => b"take",
+            Kind::Digits => b"digits",
+            Kind::Text7 => b"text7",
+            Kind::Val => b"val",
+            Kind::Count => b"count",
+            Kind::Fragment => b"fragment",
+            Kind::Frame => b"frame",
+            Kind::History => b"history",
+            Kind::Encode => b"encode",
+            Kind::Summary => b"summary",
+            Kind::Decode => b"decode",
+            Kind::Channel => b"channel",
+            Kind::Preview => b"preview",
+        }
+    }
+
+    // How many numbers stand after the kind in a line of numbers, a few bytes, bytes and an answer.
+    fn numbers(self) -> usize
+        ensures { result ≤ 3 }
+    {
+        match self {
+            Kind::Text7 | Kind::Summary | Kind::Decode => 1,
+            Kind::Text | Kind::Take | Kind::Digits | Kind::Frame | Kind::Encode | Kind::Preview =>
+                2,
+            Kind::Fragment => 3,
+            _ => 0,
+        }
+    }
+
+    // How many bytes are the few.
+    fn few(self) -> usize
+        ensures { result ≤ 4 }
+    {
+        match self {
+            Kind::Fragment | Kind::Preview => 1,
+            Kind::Frame => 4,
+            _ => 0,
+        }
+    }
+}
+
+// The kind that a line names.
+pub fn kind_of(line: &[u8]) -> Option<Kind> {
+    let word = field(line, 0);
+    for kind in Kind::ALL {
+        if kind.name() == word {
+            return Some(kind);
+        }
+    }
+    None
+}
 
 // Makes the call of a line again and compares the answers.
-pub fn run(kind: usize, line: &[u8]) -> Outcome {
+pub fn run(kind: Kind, line: &[u8]) -> Outcome {
     match kind {
-        1 => push(line, false),
-        2 => push(line, true),
-        8 => count(line),
-        11 => histories::history(line),
-        15 => histories::channel::channel(line),
+        Kind::Push => push(line),
+        Kind::Bfi => bfi(line),
+        Kind::Count => count(line),
+        Kind::History => histories::history(line),
+        Kind::Channel => histories::channel::channel(line),
         _ => plain(kind, line),
     }
 }
 
-// How many numbers stand behind the kind in a line of numbers, a few bytes, bytes and an answer.
-fn numbers_of(kind: usize) -> usize
-    ensures { result ≤ 3 }
-{
-    match kind {
-        6 | 13 | 14 => 1,
-        3 | 4 | 5 | 10 | 12 | 16 => 2,
-        9 => 3,
-        _ => 0,
-    }
-}
-
-// How many bytes are the few.
-fn few_of(kind: usize) -> usize
-    ensures { result ≤ 4 }
-{
-    match kind {
-        9 | 16 => 1,
-        10 => 4,
-        _ => 0,
-    }
-}
-
 // Reads a line of numbers, a few bytes, bytes and an answer, and makes its call.
-fn plain(kind: usize, line: &[u8]) -> Outcome {
-    let k = numbers_of(kind);
-    let m = few_of(kind);
+fn plain(kind: Kind, line: &[u8]) -> Outcome {
     let mut v = [0u64; 3];
     let mut few = [0u8; 4];
     let mut data = io::large_buffer();
-    let read = inputs(line, &mut v[0..k], &mut few[0..m], &mut data);
-    if !read.good {
-        return Outcome::Bad;
+    let read = inputs(
+        line,
+        &mut v[..kind.numbers()],
+        &mut few[..kind.few()],
+        &mut data,
+    );
+    match read {
+        Some(n) => call(kind, &v, &few, &data[..n], last(line)),
+        None => Outcome::Bad,
     }
-    let n = read.n;
-    call(kind, &v, &few, &data[0..n], last(line))
 }
 
 // Makes the call of a line that was read.
-fn call(kind: usize, v: &[u64; 3], few: &[u8; 4], s: &[u8], answer: &[u8]) -> Outcome
+fn call(kind: Kind, v: &[u64; 3], few: &[u8; 4], s: &[u8], answer: &[u8]) -> Outcome
     requires { length s.now ≤ 65536 }
 {
     match kind {
-        0 => crc(s, answer),
-        3 => text(v[0], v[1], s, answer),
-        4 => take(v[0], v[1], s, answer),
-        5 => digits(v[0], v[1], s, answer),
-        6 => text7(v[0], s, answer),
-        7 => same_number(answer, bits::vb_val(s)),
-        9 => within(kind, v[2], v, few, s, answer),
-        10 | 12 => within(kind, v[1], v, few, s, answer),
-        13 => summary(v[0], s, answer),
-        14 => within(kind, v[0], v, few, s, answer),
-        16 => preview(v[0], v[1], few[0], s, answer),
+        Kind::Crc => crc(s, answer),
+        Kind::Text => text(v[0], v[1], s, answer),
+        Kind::Take => take(v[0], v[1], s, answer),
+        Kind::Digits => digits(v[0], v[1], s, answer),
+        Kind::Text7 => text7(v[0], s, answer),
+        Kind::Val => same_number(answer, bits::vb_val(s)),
+        Kind::Fragment => within(v[2], |out| fragment(v[0], v[1], few[0], s, answer, out)),
+        Kind::Frame => within(v[1], |out| frame(v[0], few, s, answer, out)),
+        Kind::Encode => within(v[1], |out| encode(v[0], s, answer, out)),
+        Kind::Summary => summary(v[0], s, answer),
+        Kind::Decode => within(v[0], |out| decode(s, answer, out)),
+        Kind::Preview => preview(v[0], v[1], few[0], s, answer),
         _ => Outcome::Bad,
     }
 }
 
 // Makes a call that writes to an output of so many bytes.
-fn within(kind: usize, room: u64, v: &[u64; 3], few: &[u8; 4], s: &[u8], answer: &[u8]) -> Outcome {
+// Never inlined, as `same_bytes` of crate lines is not.
+#[inline(never)]
+fn within<F: FnOnce(&mut [u8]) -> Outcome>(room: u64, write: F) -> Outcome
+    requires { F.IsAlwaysCallable write }
+{
     let mut out = io::large_buffer();
     let n = room as usize;
     if out.len() < n {
         return Outcome::Bad;
     }
-    write(kind, v, few, s, answer, &mut out[0..n])
-}
-
-// Makes a call that writes to `out`.
-fn write(
-    kind: usize,
-    v: &[u64; 3],
-    few: &[u8; 4],
-    s: &[u8],
-    answer: &[u8],
-    out: &mut [u8],
-) -> Outcome {
-    match kind {
-        9 => fragment(v[0], v[1], few[0], s, answer, out),
-        12 => encode(v[0], s, answer, out),
-        14 => decode(s, answer, out),
-        _ => frame(v[0], few, s, answer, out),
-    }
-}
-
-// The kind that a line names, or `KINDS` where it names none.
-pub fn kind_of(line: &[u8]) -> usize {
-    let mut kind: usize = 0;
-    while kind < KINDS {
-        if is_kind(line, kind) {
-            return kind;
-        }
-        kind += 1;
-    }
-    KINDS
-}
-
-// Whether a line names this kind.
-fn is_kind(line: &[u8], kind: usize) -> bool {
-    check::same(field(line, 0), piece(&NAMES, kind, b' '))
-}
-
-// Writes the name of a kind.
-pub fn print_name(kind: usize) {
-    io::write_all(1, piece(&NAMES, kind, b' '));
+    write(&mut out[..n])
 }
 
 // crc HEX CRC
@@ -140,23 +184,29 @@ fn crc(data: &[u8], answer: &[u8]) -> Outcome {
     same_bytes(answer, &[(c / 256) as u8, (c % 256) as u8])
 }
 
-// push V AT W N HEX: V in AT bits, then the low N bits of W. bfi V AT W N HEX: the highest N instead, and N is not 0
-fn push(line: &[u8], highest: bool) -> Outcome {
-    let r = two_words(line);
-    if !r.good {
+// push V AT W N HEX: V in AT bits, then the low N bits of W
+fn push(line: &[u8]) -> Outcome {
+    let Some(r) = two_words(line) else {
+        return Outcome::Bad;
+    };
+    let mut out = [0u8; 16];
+    let mid = bits_write::push(&mut out, 0, r.v, r.at);
+    let end = bits_write::push(&mut out, mid, r.w, r.n);
+    same_bytes(last(line), &out[..end.div_ceil(8)])
+}
+
+// bfi V AT W N HEX: V in AT bits, then the highest N of W; N is not 0
+fn bfi(line: &[u8]) -> Outcome {
+    let Some(r) = two_words(line) else {
+        return Outcome::Bad;
+    };
+    if r.n == 0 {
         return Outcome::Bad;
     }
     let mut out = [0u8; 16];
     let mid = bits_write::push(&mut out, 0, r.v, r.at);
-    if !highest {
-        let end = (bits_write::push(&mut out, mid, r.w, r.n) + 7) / 8;
-        return same_bytes(field(line, 5), &out[0..end]);
-    }
-    if r.n == 0 {
-        return Outcome::Bad;
-    }
-    let end = (bits_write::push_bfi(&mut out, mid, r.w, r.n) + 7) / 8;
-    same_bytes(field(line, 5), &out[0..end])
+    let end = bits_write::push_bfi(&mut out, mid, r.w, r.n);
+    same_bytes(last(line), &out[..end.div_ceil(8)])
 }
 
 // text V AT TEXT HEX: V in AT bits, then a text of seven bits a byte
@@ -168,7 +218,7 @@ fn text(v: u64, at: u64, s: &[u8], answer: &[u8]) -> Outcome
     }
     let mut out = io::large_buffer();
     let end = push_text(&mut out, v, at as usize, s);
-    same_bytes(answer, &out[0..end])
+    same_bytes(answer, &out[..end])
 }
 
 // Makes the calls of a text line. How many bytes were written: the pad goes up to a whole byte.
@@ -216,10 +266,8 @@ fn count(line: &[u8]) -> Outcome {
     if !numbers(line, 4, &mut v) {
         return Outcome::Bad;
     }
-    same_counted(
-        field(line, 3),
-        sender::count_for_field(v[0] as usize, v[1] as usize),
-    )
+    let ours = sender::count_for_field(v[0] as usize, v[1] as usize);
+    same_counted(last(line), ours)
 }
 
 // fragment FIELD K ROOM MASK HEX ANSWER: fragment K of a message, to an output of ROOM bytes

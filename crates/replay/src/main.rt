@@ -5,30 +5,27 @@
 mod answer;
 mod kinds;
 
-ghost use Rattle.std.specs.Prelude.{◌≡◌, length};
-
-use kinds::KINDS;
+use kinds::{KINDS, Kind};
 use lines::answer::Outcome;
 use lines::tell::{is_comment, print_counts, print_place};
 use texts::part::find;
+use texts::space::zeros;
 
-// Room for the input. The contract gives only the length, so that no caller's proof unfolds the array.
-// Not optimized, as `rt try` runs it too, the program makes copies of the room that overflow a stack of 8 MiB.
-fn room() -> [u8; 4194304]
-    ensures { 4194304 ≡ length result }
-{
-    [0; 4194304]
+// How many calls of a kind were equal, and how many differ.
+#[derive(Clone, Copy)]
+struct Counts {
+    equal: u64,
+    differ: u64,
 }
 
 // Replays the whole input, or says that it is longer than the room, so that no line is left out unsaid.
 fn main() {
-    let mut input = room();
+    // Not optimized, as `rt try` runs it too, the program makes copies of the room that overflow a stack of 8 MiB.
+    let mut input: [u8; 4194304] = zeros();
     let n = io::read_full(0, &mut input);
-    if n == input.len() {
-        if more() {
-            io::write_all(1, b"input too long\n");
-            return;
-        }
+    if n == input.len() && more() {
+        io::write_all(1, b"input too long\n");
+        return;
     }
     replay(&input[..n]);
 }
@@ -41,53 +38,53 @@ fn more() -> bool {
 
 // Replays every line, then writes the counts.
 fn replay(s: &[u8]) {
-    let mut equal = [0u64; KINDS];
-    let mut differ = [0u64; KINDS];
+    let mut counts = [Counts {
+        equal: 0,
+        differ: 0,
+    }; KINDS];
     let mut at: usize = 0;
     let mut number: u64 = 0;
     while at < s.len() {
         let end = find(s, at, b'\n');
         number += 1;
-        line(&s[at..end], number, &mut equal, &mut differ);
+        line(&s[at..end], number, &mut counts);
         at = end + 1;
     }
-    report(&equal, &differ);
+    report(&counts);
 }
 
-// Replays a line and counts it under its kind, or says that it differs or is not understood.
-fn line(s: &[u8], number: u64, equal: &mut [u64; KINDS], differ: &mut [u64; KINDS]) {
+// Replays a line and counts it under its kind, or says that it differs or is not understood. No input is long enough for a count to wrap.
+fn line(s: &[u8], number: u64, counts: &mut [Counts; KINDS]) {
     if is_comment(s) {
         return;
     }
-    let kind = kinds::kind_of(s);
+    let Some(kind) = kinds::kind_of(s) else {
+        not_understood(number);
+        return;
+    };
+    let count = &mut counts[kind as usize];
     match kinds::run(kind, s) {
-        Outcome::Equal => count(equal, kind),
+        Outcome::Equal => count.equal = count.equal.wrapping_add(1),
         Outcome::Differ => {
-            count(differ, kind);
+            count.differ = count.differ.wrapping_add(1);
             print_place(number);
-            kinds::print_name(kind);
+            io::write_all(1, kind.name());
             io::write_all(1, b" differs\n");
         }
-        Outcome::Bad => {
-            print_place(number);
-            io::write_all(1, b"not understood\n");
-        }
+        Outcome::Bad => not_understood(number),
     }
 }
 
-// One more of a kind. No input is long enough for the count to wrap.
-fn count(counts: &mut [u64; KINDS], kind: usize) {
-    if kind < KINDS {
-        counts[kind] = std::num::wrapping_add_u64(counts[kind], 1);
-    }
+// Says that a line is not understood.
+fn not_understood(number: u64) {
+    print_place(number);
+    io::write_all(1, b"not understood\n");
 }
 
 // Writes the counts, a line for each kind.
-fn report(equal: &[u64; KINDS], differ: &[u64; KINDS]) {
-    let mut kind: usize = 0;
-    while kind < KINDS {
-        kinds::print_name(kind);
-        print_counts(equal[kind], differ[kind]);
-        kind += 1;
+fn report(counts: &[Counts; KINDS]) {
+    for (kind, count) in Kind::ALL.iter().zip(counts) {
+        io::write_all(1, kind.name());
+        print_counts(count.equal, count.differ);
     }
 }

@@ -27,9 +27,10 @@ use Rattle.preview.specs.Preview.{preview_of}
 use Rattle.texts.specs.Hex.{hex_of, bytes_of, read_of}
 use Rattle.texts.specs.Number.{numeral_of}
 use Rattle.texts.specs.Part.{before, behind}
-use Rattle.texts.specs.Say.{command_of, line_room, reason_of, numbered_line, refusal_line, error_line, unread_line, read_or}
-use Rattle.texts.specs.declared.hex.Read.{Read}
-use Rattle.texts.specs.declared.hex.Read.TheVariants.{Bytes, NoDigit, Odd, TooLong}
+use Rattle.texts.specs.Say.{command_of, line_room, reason_of, numbered_line, refusal_line, error_line, fault_of, unread_line, read_or}
+use Rattle.texts.specs.declared.hex.HexError.{HexError}
+use Rattle.std.proofs.Common.{Result, Ok, Err}
+use Rattle.texts.proofs.SayLaws.{fault_few}
 use Rattle.texts.proofs.NumberLaws.{numeral_length}
 use Rattle.texts.proofs.PartLaws.{piece_length}
 use Rattle.texts.proofs.ShowLaws.{hex_length}
@@ -161,12 +162,10 @@ unfolding said_of price_text pick
 said_length true field mask command d = priced_length (preview_of command d field mask)
 said_length false field mask command d = data_length field mask command d
 
-read_length : (number : ℕ) (text : List ℕ) → length text ≤ 12716 → (r : Read) → length (read_or number text r) ≤ 12716
+read_length : (number : ℕ) (text : List ℕ) → length text ≤ 12716 → (r : Result ℕ HexError) → length (read_or number text r) ≤ 12716
 unfolding read_or unread_line
-read_length number text l (Bytes n) = l
-read_length number text l NoDigit = omega (arith, error_length number (ascii "no hexadecimal digit"))
-read_length number text l Odd = omega (arith, error_length number (ascii "an odd number of digits"))
-read_length number text l TooLong = omega (arith, error_length number (ascii "too long"))
+read_length number text l (Ok n) = l
+read_length number text l (Err e) = omega (arith, error_length number (fault_of e), fault_few e)
 
 pub line_length : (priced : Bool) (field mask number : ℕ) (line : List ℕ) → length (line_text priced field mask number line) ≤ 12716
 unfolding line_text spelled_text

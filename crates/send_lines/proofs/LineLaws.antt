@@ -16,9 +16,9 @@ use Rattle.laws.specs.Text.{ascii, same}
 use Rattle.laws.proofs.Cases.{pick_true, pick_false, by_le}
 use Rattle.laws.proofs.TextLaws.{eq_same, ne_same}
 use Rattle.laws.proofs.WroteLaws.{wrote_none, wrote_then}
-use Rattle.refusals.specs.declared.Answer.{Answer}
-use Rattle.refusals.specs.declared.Answer.TheVariants.{Refused, Bytes}
-use Rattle.refusals.specs.Outcome.{Outcome, refused, answer, outcome_of, left, into}
+use Rattle.std.proofs.Common.{Result, Ok, Err}
+use Rattle.refusals.specs.declared.Refusal.{Refusal}
+use Rattle.refusals.specs.Outcome.{Outcome, refused, answer, number, outcome_of, left, into}
 use Rattle.refusals.specs.Limits.{field_ok}
 use Rattle.refusals.proofs.LimitLaws.{field_low}
 use Rattle.refusals.proofs.OutcomeLaws.{same_answer_lem, past, told_bytes, told_refusal}
@@ -27,8 +27,6 @@ use Rattle.sender.specs.Send.{ceiling, count_of, count_for, send_of}
 use Rattle.sender.proofs.CountLaws.{count_one, count_many}
 use Rattle.ax25_address.specs.declared.classify.AprsType.{AprsType}
 use Rattle.ax25_address.specs.Kind.{type_number}
-use Rattle.kiss.specs.declared.Encoded.{Encoded}
-use Rattle.kiss.specs.declared.Encoded.TheVariants as encoded
 use Rattle.kiss.specs.Codec.{code_of}
 use Rattle.kiss.specs.Told.{encoded_of, code_into}
 use Rattle.kiss.proofs.CodeBounds.{code_bounds}
@@ -38,11 +36,8 @@ use Rattle.room.proofs.SendRoom.{sent_fits, framed_fits}
 use Rattle.texts.specs.Hex.{hex_of, bytes_of, read_of}
 use Rattle.texts.specs.Part.{before, behind, piece_of, without_cr}
 use Rattle.texts.specs.Say.{command_of, spelled_of, refusal_line, error_line, read_or, line_room}
-use Rattle.texts.specs.declared.hex.Read.TheVariants as read
 use Rattle.texts.proofs.BackLaws.{Spells, spelled_back}
 use Rattle.texts.proofs.ShowLaws.{hex_length}
-use Rattle.send_lines.specs.declared.line.Sent.{Sent}
-use Rattle.send_lines.specs.declared.line.Sent.TheVariants as sent
 use Rattle.send_lines.specs.Line.{plain, marker, framed_of, lined_by, frames_of, said_of, spelled_text, line_text, Sends}
 
 -- ---- how many fragments
@@ -67,15 +62,15 @@ count_few total field count e =
 -- ---- a frame as a line
 
 module _ (field : ℕ) (d : List ℕ) where
-  pub frame_refused : (out t : List ℕ) (r : Answer) (n : ℕ) → r ≡ Refused n → left (outcome_of r) t ≡ into (build_of field d plain marker) out → length out ≡ 515
-      → (b : List ℕ) (at : ℕ) → Sends b at (build_of field d plain marker) b (sent.Refused n)
-  frame_refused out t r n told e size b at = rw (told_refusal out t (build_of field d plain marker) r n told e (λ v q. omega (arith, framed_fits field d plain marker v q))) (refl, refl)
+  pub frame_refused : (out t : List ℕ) (r : Result ℕ Refusal) (x : Refusal) → r ≡ Err x → left (outcome_of r) t ≡ into (build_of field d plain marker) out → length out ≡ 515
+      → (b : List ℕ) (at : ℕ) → Sends b at (build_of field d plain marker) b (Err x)
+  frame_refused out t r x told e size b at = rw (told_refusal out t (build_of field d plain marker) r x told e (λ v q. omega (arith, framed_fits field d plain marker v q))) (refl, refl)
 
-  module _ (out t : List ℕ) (r : Answer) (n : ℕ) (told : r ≡ Bytes n) (e : left (outcome_of r) t ≡ into (build_of field d plain marker) out) where
+  module _ (out t : List ℕ) (r : Result ℕ Refusal) (n : ℕ) (told : r ≡ Ok n) (e : left (outcome_of r) t ≡ into (build_of field d plain marker) out) where
     pub frame_short : length (take n t) ≤ 515
     frame_short = let h = told_bytes out t (build_of field d plain marker) r n told e in rw h.front (omega (arith, framed_fits field d plain marker h.bytes h.is))
 
-    pub frame_lined : {b c g : List ℕ} {at p q : ℕ} → Wrote b at (hex_of (take n t)) c p → Wrote c p (10 ∷ []) g q → Sends b at (build_of field d plain marker) g (sent.Next q)
+    pub frame_lined : {b c g : List ℕ} {at p q : ℕ} → Wrote b at (hex_of (take n t)) c p → Wrote c p (10 ∷ []) g q → Sends b at (build_of field d plain marker) g (Ok q)
     frame_lined w x =
         let h = told_bytes out t (build_of field d plain marker) r n told e in
         let few = framed_fits field d plain marker h.bytes h.is in
@@ -85,14 +80,14 @@ module _ (field : ℕ) (d : List ℕ) where
 -- ---- the frame of a fragment
 
 module _ (message : List ℕ) (field mask k : ℕ) where
-  pub fragment_refused : (out t : List ℕ) (r : Answer) (n : ℕ) → r ≡ Refused n → left (outcome_of r) t ≡ into (send_of message field mask k) out → length out ≡ 512
-      → (b : List ℕ) (at : ℕ) → Sends b at (framed_of field (send_of message field mask k)) b (sent.Refused n)
+  pub fragment_refused : (out t : List ℕ) (r : Result ℕ Refusal) (x : Refusal) → r ≡ Err x → left (outcome_of r) t ≡ into (send_of message field mask k) out → length out ≡ 512
+      → (b : List ℕ) (at : ℕ) → Sends b at (framed_of field (send_of message field mask k)) b (Err x)
   unfolding framed_of
   fragment_refused out t r n told e size b at =
       rw (told_refusal out t (send_of message field mask k) r n told e (λ v q. omega (arith, sent_fits message field mask k v q))) (refl, refl)
 
-  pub fragment_framed : (out t : List ℕ) (r : Answer) (n : ℕ) → r ≡ Bytes n → left (outcome_of r) t ≡ into (send_of message field mask k) out
-      → (b g : List ℕ) (at : ℕ) (s : Sent) → Sends b at (build_of field (take n t) plain marker) g s → Sends b at (framed_of field (send_of message field mask k)) g s
+  pub fragment_framed : (out t : List ℕ) (r : Result ℕ Refusal) (n : ℕ) → r ≡ Ok n → left (outcome_of r) t ≡ into (send_of message field mask k) out
+      → (b g : List ℕ) (at : ℕ) (s : Result ℕ Refusal) → Sends b at (build_of field (take n t) plain marker) g s → Sends b at (framed_of field (send_of message field mask k)) g s
   unfolding framed_of
   fragment_framed out t r n told e b g at s w =
       let h = told_bytes out t (send_of message field mask k) r n told e in
@@ -116,44 +111,44 @@ module _ (message : List ℕ) (field mask n k : ℕ) where
         let e : n ≡ suc (n - 1) = omega arith in
         ap (λ (m : ℕ). frames_of message field mask m k) e
 
-    next_by : (o : Outcome (List ℕ)) {b c g : List ℕ} {at p q : ℕ} (s : Sent) → Sends b at o c s → s ≡ sent.Next p
+    next_by : (o : Outcome (List ℕ)) {b c g : List ℕ} {at p q : ℕ} (s : Result ℕ Refusal) → Sends b at o c s → s ≡ Ok p
         → Wrote c p (frames_of message field mask (n - 1) (k + 1)) g q → Wrote b at (lined_by o (frames_of message field mask (n - 1) (k + 1))) g q
     unfolding lined_by
     next_by (refused m) s w told x = absurd (rw told at w)
     next_by (answer f) s w told x = wrote_then (rw told at w).0 x
 
-    stop_by : (o : Outcome (List ℕ)) {b c g : List ℕ} {at q m : ℕ} (s : Sent) → Sends b at o c s → s ≡ sent.Refused m
-        → Wrote c at (refusal_line m) g q → Wrote b at (lined_by o (frames_of message field mask (n - 1) (k + 1))) g q
+    stop_by : (o : Outcome (List ℕ)) {b c g : List ℕ} {at q : ℕ} {x : Refusal} (s : Result ℕ Refusal) → Sends b at o c s → s ≡ Err x
+        → Wrote c at (refusal_line (number x)) g q → Wrote b at (lined_by o (frames_of message field mask (n - 1) (k + 1))) g q
     unfolding lined_by
     stop_by (refused r) s w told x = let z = rw told at w in rw (z.0, ← z.1) x
     stop_by (answer f) s w told x = absurd (rw told at w)
 
-    pub frames_next : {b c g : List ℕ} {at p q : ℕ} (s : Sent) → Sends b at first c s → s ≡ sent.Next p
+    pub frames_next : {b c g : List ℕ} {at p q : ℕ} (s : Result ℕ Refusal) → Sends b at first c s → s ≡ Ok p
         → Wrote c p (frames_of message field mask (n - 1) (k + 1)) g q → Wrote b at (frames_of message field mask n k) g q
     frames_next s w told x = rw frames_first (next_by first s w told x)
 
-    pub frames_stop : {b c g : List ℕ} {at q m : ℕ} (s : Sent) → Sends b at first c s → s ≡ sent.Refused m
-        → Wrote c at (refusal_line m) g q → Wrote b at (frames_of message field mask n k) g q
+    pub frames_stop : {b c g : List ℕ} {at q : ℕ} {x : Refusal} (s : Result ℕ Refusal) → Sends b at first c s → s ≡ Err x
+        → Wrote c at (refusal_line (number x)) g q → Wrote b at (frames_of message field mask n k) g q
     frames_stop s w told x = rw frames_first (stop_by first s w told x)
 
 -- a line takes at most 1,031 bytes
-pub next_few : (o : Outcome (List ℕ)) (b c : List ℕ) (at p : ℕ) (s : Sent) → Sends b at o c s → s ≡ sent.Next p → p ≤ at + 1031
+pub next_few : (o : Outcome (List ℕ)) (b c : List ℕ) (at p : ℕ) (s : Result ℕ Refusal) → Sends b at o c s → s ≡ Ok p → p ≤ at + 1031
 next_few (refused m) b c at p s w told = absurd (rw told at w)
 next_few (answer f) b c at p s w told = (rw told at w).1
 
 -- ---- data under a command
 
-module _ (command : ℕ) (d out t : List ℕ) (r : Encoded) (e : (encoded_of r, t) ≡ code_into (code_of command d) out) where
-  pub code_refused : 5000 ≤ length out → (n : ℕ) → r ≡ encoded.Refused n → code_of command d ≡ refused n
-  code_refused room n told =
-      told_refused (λ c. c.bytes) (λ c. c.typ) out t (code_of command d) n
-      (ap (λ (x : Encoded). (encoded_of x, t)) (sym told) ∙ e)
+module _ (command : ℕ) (d out t : List ℕ) (r : Result (ℕ × AprsType) Refusal) (e : (encoded_of r, t) ≡ code_into (code_of command d) out) where
+  pub code_refused : 5000 ≤ length out → (x : Refusal) → r ≡ Err x → code_of command d ≡ refused (number x)
+  code_refused room x told =
+      told_refused (λ c. c.bytes) (λ c. c.typ) out t (code_of command d) (number x)
+      (ap (λ (y : Result (ℕ × AprsType) Refusal). (encoded_of y, t)) (sym told) ∙ e)
       (λ q. q)
       (λ c q h z. absurd (omega (arith, h, room, (code_bounds command d c q).fits)))
 
-  pub code_bytes : (n : ℕ) (typ : AprsType) → r ≡ encoded.Bytes n typ → Coding.Handed (λ c. c.bytes) (λ c. c.typ) (code_of command d) (length out) t n (type_number typ)
+  pub code_bytes : (n : ℕ) (typ : AprsType) → r ≡ Ok (n, typ) → Coding.Handed (λ c. c.bytes) (λ c. c.typ) (code_of command d) (length out) t n (type_number typ)
   code_bytes n typ told =
-      told_answer (λ c. c.bytes) (λ c. c.typ) out t (code_of command d) n (type_number typ) (ap (λ (x : Encoded). (encoded_of x, t)) (sym told) ∙ e)
+      told_answer (λ c. c.bytes) (λ c. c.typ) out t (code_of command d) n (type_number typ) (ap (λ (x : Result (ℕ × AprsType) Refusal). (encoded_of x, t)) (sym told) ∙ e)
 
 -- ---- a line
 
@@ -204,7 +199,7 @@ unfolding command_of same pick
 no_text = refl
 
 module _ (priced : Bool) (field mask number command : ℕ) (d : List ℕ) (known : command ≤ 2) where
-  spelled_data : (s : List ℕ) → read_of line_room s ≡ read.Bytes (length d) → bytes_of s ≡ d → spelled_text priced field mask number command s ≡ said_of priced field mask command d
+  spelled_data : (s : List ℕ) → read_of line_room s ≡ Ok (length d) → bytes_of s ≡ d → spelled_text priced field mask number command s ≡ said_of priced field mask command d
   unfolding spelled_text read_or
   spelled_data s e f = rw (e, f)
 

@@ -33,8 +33,8 @@ use Rattle.texts.specs.Hex.{digit_of, hex_byte, hex_of, bytes_of, read_of}
 use Rattle.texts.specs.Number.{numeral_from, numeral_of}
 use Rattle.texts.specs.Part.{before, behind}
 use Rattle.texts.specs.Say.{command_of, line_room, numbered_line, refusal_line, error_line, read_or}
-use Rattle.texts.specs.declared.hex.Read.{Read}
-use Rattle.texts.specs.declared.hex.Read.TheVariants.{Bytes, NoDigit, Odd, TooLong}
+use Rattle.texts.specs.declared.hex.HexError.{HexError}
+use Rattle.std.proofs.Common.{Result, Ok, Err}
 use Rattle.send_lines.specs.Line.{plain, marker, framed_of, lined_by, frames_of, counted_text, coded_text, data_text, price_line, priced_text, price_text, said_of, spelled_text, line_text}
 
 -- ---- data that `price` refuses
@@ -288,12 +288,10 @@ module _ (field mask : ℕ) where
   alike_pick true x y = x
   alike_pick false x y = y
 
-  alike_read : (number : ℕ) {a b : List ℕ} → Alike field mask a b → (r : Read) → Alike field mask (read_or number a r) (read_or number b r)
+  alike_read : (number : ℕ) {a b : List ℕ} → Alike field mask a b → (r : Result ℕ HexError) → Alike field mask (read_or number a r) (read_or number b r)
   unfolding read_or
-  alike_read number x (Bytes n) = x
-  alike_read number x NoDigit = same_text refl
-  alike_read number x Odd = same_text refl
-  alike_read number x TooLong = same_text refl
+  alike_read number x (Ok n) = x
+  alike_read number x (Err e) = same_text refl
 
   alike_refusing : {a b : List ℕ} → Alike field mask a b → refusing a ≡ refusing b
   alike_refusing (same_text e) = ap refusing e

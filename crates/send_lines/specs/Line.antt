@@ -1,10 +1,11 @@
 -- What `send` and `price` say of a line.
 -- Assumes nothing.
-use Rattle.std.specs.Prelude.{◌≡◌, Bool, false, List, [], ◌∷◌, ◌++◌, ℕ, zero, suc, ◌+◌, ◌≤◌, length, eqb, ltb}
+use Rattle.std.specs.Prelude.{◌≡◌, Result, Ok, Err, Bool, true, false, List, [], ◌∷◌, ◌++◌, ℕ, zero, suc, ◌+◌, ◌≤◌, length, eqb, ltb}
 use Rattle.laws.specs.Pick.{pick}
 use Rattle.laws.specs.Text.{ascii, same}
 use Rattle.laws.specs.Wrote.{Wrote}
-use Rattle.refusals.specs.Outcome.{Outcome, refused, answer}
+use Rattle.refusals.specs.Outcome.{Outcome, refused, answer, number}
+use Rattle.refusals.specs.declared.Refusal.{Refusal}
 use Rattle.frame.specs.Frame.{build_of}
 use Rattle.frame.specs.declared.Control.{Control}
 use Rattle.sender.specs.Send.{count_for, send_of}
@@ -16,8 +17,8 @@ use Rattle.texts.specs.Hex.{hex_of, bytes_of, read_of}
 use Rattle.texts.specs.Number.{numeral_of}
 use Rattle.texts.specs.Part.{before, behind}
 use Rattle.texts.specs.Say.{command_of, line_room, refusal_line, error_line, read_or}
-use Rattle.send_lines.specs.declared.line.Sent.{Sent}
-use Rattle.send_lines.specs.declared.line.Sent.TheVariants.{Next, Refused}
+use Rattle.send_lines.specs.declared.Task.{Task}
+use Rattle.send_lines.specs.declared.Task.TheVariants as task
 
 -- frames are built with reply 0, not compressed, hint 0
 abbrev pub plain : Control
@@ -73,6 +74,11 @@ price_text field mask command d = priced_text (preview_of command d field mask)
 
 -- ---- a line
 
+-- `price` and not `send`
+abbrev pub is_price : Task → Bool
+is_price task.Send = false
+is_price task.Price = true
+
 -- what `price` says of data under a command where `priced` is true, else what `send` says
 unfoldable pub said_of : Bool → ℕ → ℕ → ℕ → List ℕ → List ℕ
 said_of priced field mask command d = pick priced (price_text field mask command d) (data_text field mask command d)
@@ -91,8 +97,8 @@ line_text priced field mask number line =
 
 -- ---- what `one` and `framed` answer: a line is written, of at most 1,031 bytes, or the refusal is told and nothing is written
 
-abbrev pub Sends : List ℕ → ℕ → Outcome (List ℕ) → List ℕ → Sent → Type 0
-Sends b at (refused n) d (Refused m) = (n ≡ m) × (d ≡ b)
-Sends b at (refused n) d (Next p) = ⊥
-Sends b at (answer f) d (Refused m) = ⊥
-Sends b at (answer f) d (Next p) = Wrote b at (hex_of f ++ (10 ∷ [])) d p × (p ≤ at + 1031)
+abbrev pub Sends : List ℕ → ℕ → Outcome (List ℕ) → List ℕ → Result ℕ Refusal → Type 0
+Sends b at (refused n) d (Err e) = (n ≡ number e) × (d ≡ b)
+Sends b at (refused n) d (Ok p) = ⊥
+Sends b at (answer f) d (Err e) = ⊥
+Sends b at (answer f) d (Ok p) = Wrote b at (hex_of f ++ (10 ∷ [])) d p × (p ≤ at + 1031)

@@ -1,21 +1,30 @@
 -- The command of a word, test by test, the digits of bytes, and a text that spells no bytes.
 -- Assumes nothing.
-use mathlib.Core.Path.{◌≡◌, refl, sym, ap, ◌∙◌}
+use mathlib.Core.Path.{◌≡◌, sym, ap, ◌∙◌}
 use mathlib.Core.List.{List, [], ◌∷◌, ◌++◌}
 use Prim.Native.Nat.{ℕ, ◌≤◌, ◌<◌}
 use native.Mathlib.Omega.{arith}
+use mathlib.Core.Bool.{false}
+use lib.Dec.{eqb}
+use lib.Pointwise.{pointwise}
 use lib.ListN.{length}
+use Rattle.std.specs.Cmp.Lexicographic.{other_text}
 use borrow.Author.Tests.{eq-eqb, ne_eqb, lt-ltb, le-ltb}
 use Rattle.laws.specs.Text.{ascii}
-use Rattle.laws.proofs.Cases.{pick_true, pick_false}
+use Rattle.laws.proofs.Cases.{pick_true, pick_false, by_le}
 use Rattle.laws.proofs.TextLaws.{eq_same, ne_same}
 use Rattle.texts.specs.Hex.{hex_of}
 use Rattle.laws.specs.Bits.{num}
-use Rattle.texts.specs.Say.{word_of, reason_of, command_of, named_of, digits_of, fault_of, unread_line, read_or}
+use Rattle.texts.specs.Say.{word_of, reason_of, command_of, named_of, digits_of, fault_of}
 use Rattle.texts.proofs.PartLaws.{piece_length, piece_past, places}
 use Rattle.texts.specs.declared.hex.HexError.{HexError}
 use Rattle.texts.specs.declared.hex.HexError.TheVariants.{NoDigit, Odd, TooLong}
-use Rattle.std.proofs.Common.{None, Some, Result, Ok, Err}
+use Rattle.std.proofs.Common.{None, Some}
+use Rattle.std.proofs.lemmas.Option.{none-some, same_Some}
+
+-- what a test of a word has told
+pub other_word : (w s : List ℕ) {t : List ℕ} → s ≡ t → false ≡ pointwise eqb w s → w ≡ t → ⊥
+other_word w s e h q = other_text w s h (q ∙ sym e)
 
 module _ (w : List ℕ) where
   pub command_ax25 : w ≡ ascii "ax25" → 0 ≡ command_of w
@@ -66,6 +75,21 @@ module _ (w : List ℕ) (n : ℕ) (is : n ≡ command_of w) where
   unfolding named_of
   named_none h = sym (pick_true _ _ (lt-ltb 2 (command_of w) (omega arith)))
 
+module _ (w : List ℕ) where
+  pub named_is : (n : ℕ) → Some n ≡ named_of w → (n ≡ command_of w) × (n ≤ 2)
+  unfolding named_of
+  named_is n e =
+      by_le (command_of w) 2
+      (λ h. let q = same_Some _ _ (e ∙ pick_false _ _ (le-ltb 2 (command_of w) h)) in (q, omega (arith, q)))
+      (λ h. absurd (none-some n (sym (e ∙ pick_true _ _ (lt-ltb 2 (command_of w) h)))))
+
+  pub named_not : None ≡ named_of w → 2 < command_of w
+  unfolding named_of
+  named_not e =
+      by_le (command_of w) 2
+      (λ h. absurd (none-some _ (e ∙ pick_false _ _ (le-ltb 2 (command_of w) h))))
+      (λ h. h)
+
 module _ (d : List ℕ) where
   pub digits_none : length d ≡ 0 → digits_of d ≡ []
   unfolding digits_of
@@ -80,9 +104,3 @@ unfolding fault_of
 fault_few NoDigit = omega arith
 fault_few Odd = omega arith
 fault_few TooLong = omega arith
-
--- a text that spells no bytes
-pub unread_by : (number : ℕ) (text : List ℕ) (r : Result ℕ HexError) → ((n : ℕ) → r ≡ Ok n → ⊥) → read_or number text r ≡ unread_line number r
-unfolding read_or
-unread_by number text (Ok n) f = absurd (f n refl)
-unread_by number text (Err e) f = refl

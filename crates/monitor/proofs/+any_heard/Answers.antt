@@ -1,13 +1,11 @@
 -- The proof of the cycle of calls {any_heard}. The measure is how many fields there are.
 -- Assumes nothing.
-use borrow.Author.Rules.{rules}
 use native.Mathlib.Omega.{arith}
 use lib.ListN.{length}
 use Rattle.ax25_address.proofs.AliasLaws.{room_next}
 use Rattle.ax25.proofs.CoderLaws.{room_first}
 use Rattle.monitor.proofs.MonitorLaws.{behind_size, any_none, any_first, any_rest}
-use Prim.Native.Nat.{ℕ, ◌+◌, ◌≤◌, ◌<◌}
-use Rattle.monitor.proofs.+any_heard.{statement}
+use Prim.Native.Nat.{◌+◌, ◌≤◌}
 use Rattle.monitor.proofs.+any_heard.Goals as goal
 
 pub returns-then-n-eq0 : goal.returns-then-n-eq0
@@ -47,7 +45,7 @@ any_heard-requires t c =
     let size = behind_size a.f.now (a.l + 1) in
     (omega (arith, other), (omega (arith, pre.0), pre.1, omega (arith, room.1, size)))
 
-pub returns : goal.returns
-returns t c =
+pub returns-else-f-l-ge128 : goal.returns-else-f-l-ge128
+returns-else-f-l-ge128 t c =
     let a = c.args in
     any_rest a.l a.n a.f.now c.if-n-eq0.false c.if-f-l-ge128.false _ c.any_heard.ensures

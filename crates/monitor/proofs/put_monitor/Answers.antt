@@ -1,9 +1,7 @@
 -- `monitor::put_monitor` meets its contract.
 -- Assumes nothing.
-use borrow.Author.Rules.{rules}
-use mathlib.Core.Path.{sym, ap, ◌∙◌}
+use mathlib.Core.Path.{sym, ◌∙◌}
 use native.Mathlib.Omega.{arith}
-use Rattle.ax25_address.specs.Digis.{digis_of}
 use Rattle.ax25_address.proofs.PlaceLaws.{short_none}
 use Rattle.ax25_address.proofs.RecordLaws.{call_size}
 use Rattle.texts.proofs.ShowLaws.{shown_length}
@@ -25,7 +23,7 @@ returns-in_default c =
 pub put_frame-requires : goal.put_frame-requires
 put_frame-requires c =
     let letters = c.call_len-l in
-    let told = sym (ap digis_of c.in-Found.is) ∙ c.digipeaters.ensures in
+    let told = sym c.in-Some.is ∙ c.digipeaters.ensures in
     (omega (arith, letters.ensures, call_size c.args.command), told, c.requires.0, c.requires.1)
 
 pub returns : goal.returns

@@ -1,19 +1,14 @@
 -- `monitor::put_star` meets its contract.
 -- Assumes nothing.
-use borrow.Author.Rules.{rules}
 use native.Mathlib.Omega.{arith}
-use borrow.Author.Tests.{not-true, not-false}
 use Rattle.laws.proofs.WroteLaws.{wrote_none}
-use Rattle.monitor.proofs.MonitorLaws.{star_unheard, star_later, star_last}
+use Rattle.monitor.proofs.MonitorLaws.{star_none, star_last}
 use Rattle.monitor.proofs.put_star.Goals as goal
 
-pub returns-then-not-heard : goal.returns-then-not-heard
-returns-then-not-heard c = (rw (star_unheard _ _ (c.if-not-heard.true)) wrote_none, omega arith)
-
-pub returns-then-later : goal.returns-then-later
-returns-then-later c = (rw (star_later _ c.args.heard c.if-later.true) wrote_none, omega arith)
-
-pub returns : goal.returns
-returns c =
+pub returns-then-not-later : goal.returns-then-not-later
+returns-then-not-later c =
     let w = c.byte.ensures in
-    (rw (star_last _ _ (c.if-not-heard.false) c.if-later.false) w, omega (arith, w.next_is))
+    (rw (star_last _ _ c.if-heard.true c.if-not-later.true) w, omega (arith, w.next_is))
+
+pub returns-else-heard : goal.returns-else-heard
+returns-else-heard c = (rw (star_none _ _ c.else-heard.either) wrote_none, omega arith)

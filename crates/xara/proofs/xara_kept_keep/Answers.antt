@@ -1,6 +1,5 @@
 -- `xara::xara_kept_keep` meets its contract.
 -- Assumes nothing.
-use borrow.Author.Rules.{rules}
 use mathlib.Core.Path.{ap, ◌∙◌}
 use mathlib.Core.List.{List}
 use Prim.Native.Nat.{ℕ}
@@ -14,4 +13,4 @@ pub returns : goal.returns
 returns c =
     let a = c.args in
     c.keep.ensures
-    ∙ ap {A = Reassembler} {B = Keeping × List ℕ} (λ x. to_keeping_with (keep_of a.kept x a.store.now a.lent.now a.name.now)) c.receiver.ensures
+    ∙ ap {A = Reassembler} {B = Keeping × List ℕ} (λ x. to_keeping_with (keep_of a.kept x a.store.now a.lent.now a.name.now)) c.from.ensures

@@ -9,17 +9,17 @@ use Rattle.receive_lines.proofs.line.decoded.Goals as goal
 
 pub put_done-requires : goal.put_done-requires
 put_done-requires c =
-    let h = decode_bytes _ c.args.message.now _ _ c.decode.result c.decode.ensures _ _ c.in-Bytes.is in
+    let h = decode_bytes _ c.args.message.now _ _ c.decode.result c.decode.ensures _ _ c.in-Ok.is in
     omega (arith, ap length (c.front.ensures ∙ h.front), h.fits_in, c.requires.1)
 
-pub returns-in-Refused : goal.returns-in-Refused
+pub returns-in-Err : goal.returns-in-Err
 unfolding decoded_text
-returns-in-Refused c =
-    let none = decode_refused _ c.args.message.now _ _ c.decode.result c.decode.ensures c.requires.0 _ c.in-Refused.is in
-    rw none c.put_refusal.ensures
+returns-in-Err c =
+    let none = decode_refused _ c.args.message.now _ _ c.decode.result c.decode.ensures c.requires.0 _ c.in-Err.is in
+    rw (none, ← c.from.ensures) c.put_refusal.ensures
 
-pub returns-in-Bytes : goal.returns-in-Bytes
+pub returns-in-Ok : goal.returns-in-Ok
 unfolding decoded_text
-returns-in-Bytes c =
-    let h = decode_bytes _ c.args.message.now _ _ c.decode.result c.decode.ensures _ _ c.in-Bytes.is in
+returns-in-Ok c =
+    let h = decode_bytes _ c.args.message.now _ _ c.decode.result c.decode.ensures _ _ c.in-Ok.is in
     rw h.is (rw (h.beside, c.front.ensures ∙ h.front) at c.put_done.ensures)

@@ -4,7 +4,7 @@ use native.Mathlib.Omega.{arith}
 use Rattle.laws.proofs.WroteLaws.{wrote_then}
 use Rattle.texts.specs.Say.{spelled_of}
 use Rattle.receive_lines.specs.Line.{done_text}
-use Rattle.receive_lines.proofs.LineLaws.{word_few}
+use Rattle.texts.proofs.SayLaws.{word_few}
 use Rattle.receive_lines.proofs.line.put_done.Goals as goal
 
 pub put_digits-r-requires : goal.put_digits-r-requires

@@ -1,20 +1,11 @@
--- `receive_lines::line::told` meets its contract, by cases.
+-- `receive_lines::line::told` meets its contract.
 -- Assumes nothing.
 use Rattle.receive_lines.specs.Line.{heard_text}
 use Rattle.receive_lines.proofs.line.told.Goals as goal
 
-pub returns-in-Refused : goal.returns-in-Refused
-unfolding heard_text
-returns-in-Refused c = rw c.in-Refused.is c.put_refusal.ensures
+pub returns-in-Ok : goal.returns-in-Ok
+returns-in-Ok c = rw c.in-Ok.is c.pushed.ensures
 
-pub returns-in-Dropped : goal.returns-in-Dropped
+pub returns-in-Err : goal.returns-in-Err
 unfolding heard_text
-returns-in-Dropped c = rw c.in-Dropped.is c.copy.ensures
-
-pub returns-in-More : goal.returns-in-More
-unfolding heard_text
-returns-in-More c = rw c.in-More.is c.copy-in-More.ensures
-
-pub returns-in-Done : goal.returns-in-Done
-unfolding heard_text
-returns-in-Done c = rw c.in-Done.is (rw c.front.ensures at c.decoded.ensures)
+returns-in-Err c = rw (c.in-Err.is, ← c.from.ensures) c.put_refusal.ensures

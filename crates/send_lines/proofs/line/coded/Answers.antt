@@ -10,20 +10,20 @@ use Rattle.send_lines.proofs.line.coded.Goals as goal
 
 pub frames-requires : goal.frames-requires
 frames-requires c =
-    let coding = c.encode in
-    let h = code_bytes c.args.command c.args.«data».now _ _ coding.result coding.ensures _ _ c.in-Bytes.is in
-    omega (arith, ap length (c.front.ensures ∙ h.front), (code_bounds c.args.command c.args.«data».now h.it h.is).fits)
+    let a = c.args in
+    let h = code_bytes a.command a.«data».now _ _ c.encode.result c.encode.ensures _ _ c.in-Ok.is in
+    omega (arith, ap length (c.front.ensures ∙ h.front), (code_bounds a.command a.«data».now h.it h.is).fits)
 
-pub returns-in-Refused : goal.returns-in-Refused
+pub returns-in-Ok : goal.returns-in-Ok
 unfolding data_text coded_text
-returns-in-Refused c =
-    let coding = c.encode in
-    let none = code_refused c.args.command c.args.«data».now _ _ coding.result coding.ensures (omega (arith, c.room-message.ensures)) _ c.in-Refused.is in
-    rw none c.put_refusal.ensures
-
-pub returns-in-Bytes : goal.returns-in-Bytes
-unfolding data_text coded_text
-returns-in-Bytes c =
-    let coding = c.encode in
-    let h = code_bytes c.args.command c.args.«data».now _ _ coding.result coding.ensures _ _ c.in-Bytes.is in
+returns-in-Ok c =
+    let a = c.args in
+    let h = code_bytes a.command a.«data».now _ _ c.encode.result c.encode.ensures _ _ c.in-Ok.is in
     rw h.is (rw (c.front.ensures ∙ h.front) at c.frames.ensures)
+
+pub returns-in-Err : goal.returns-in-Err
+unfolding data_text coded_text
+returns-in-Err c =
+    let a = c.args in
+    let none = code_refused a.command a.«data».now _ _ c.encode.result c.encode.ensures (omega (arith, c.zeros-message.ensures)) _ c.in-Err.is in
+    rw (none, ← c.from.ensures) c.put_refusal.ensures

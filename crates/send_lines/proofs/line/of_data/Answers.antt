@@ -1,15 +1,13 @@
--- `send_lines::line::of_data` meets its contract.
+-- `send_lines::line::of_data` meets its contract, by the task.
 -- Assumes nothing.
-use mathlib.Core.Path.{sym}
-use Rattle.laws.proofs.Cases.{pick_true, pick_false}
-use Rattle.laws.proofs.WroteLaws.{wrote_as}
+use Rattle.laws.specs.Pick.{pick}
 use Rattle.send_lines.specs.Line.{said_of}
 use Rattle.send_lines.proofs.line.of_data.Goals as goal
 
-pub returns-then-priced : goal.returns-then-priced
-unfolding said_of
-returns-then-priced c = wrote_as (sym (pick_true _ _ c.if-priced.true)) c.cost.ensures
+pub returns-in-Send : goal.returns-in-Send
+unfolding said_of pick
+returns-in-Send c = rw c.in-Send.is c.coded.ensures
 
-pub returns : goal.returns
-unfolding said_of
-returns c = wrote_as (sym (pick_false _ _ c.if-priced.false)) c.coded.ensures
+pub returns-in-Price : goal.returns-in-Price
+unfolding said_of pick
+returns-in-Price c = rw c.in-Price.is c.cost.ensures

@@ -1,17 +1,17 @@
 -- `send_lines::line::one` meets its contract.
 -- Assumes nothing.
 use mathlib.Core.Path.{refl}
+use Rattle.std.proofs.lemmas.Result.{err_from_is_err_and}
 use Rattle.send_lines.proofs.LineLaws.{fragment_refused, fragment_framed}
 use Rattle.send_lines.proofs.line.one.Goals as goal
 
-pub returns-in-Refused : goal.returns-in-Refused
-returns-in-Refused c =
-    let call = c.fragment in
+pub returns-in_err-n : goal.returns-in_err-n
+returns-in_err-n c =
     let a = c.args in
-    fragment_refused a.message.now a.field a.mask a.k _ _ call.result _ c.in-Refused.is call.ensures refl _ _
+    let exit = err_from_is_err_and c.from_residual.result c.from_residual.ensures.1 in
+    rw (exit.1, exit.2) (fragment_refused a.message.now a.job.field a.job.mask a.k _ _ c.fragment.result _ c.in_err-n.was c.fragment.ensures refl _ _)
 
-pub returns-in-Bytes : goal.returns-in-Bytes
-returns-in-Bytes c =
-    let call = c.fragment in
+pub returns : goal.returns
+returns c =
     let a = c.args in
-    fragment_framed a.message.now a.field a.mask a.k _ _ call.result _ c.in-Bytes.is call.ensures _ _ _ _ (rw c.front.ensures at c.framed.ensures)
+    fragment_framed a.message.now a.job.field a.job.mask a.k _ _ c.fragment.result _ c.in_ok-n.was c.fragment.ensures _ _ _ _ (rw c.front.ensures at c.framed.ensures)

@@ -1,31 +1,45 @@
 -- `send_lines::line::said` meets its contract, test by test.
 -- Assumes nothing.
-use mathlib.Core.Path.{◌≡◌, sym, ◌∙◌}
-use mathlib.Core.Bool.{false≢true}
-use Rattle.laws.specs.Text.{ascii}
+use mathlib.Core.Path.{refl, sym, ◌∙◌}
+use lib.ListN.{length}
+use borrow.Author.Tests.{eqb-true, eqb-false}
+use Rattle.std.specs.Cmp.Lexicographic.{same_text}
 use Rattle.laws.proofs.WroteLaws.{wrote_none}
+use Rattle.texts.proofs.SayLaws.{other_word, named_is, named_not}
+use Rattle.send_lines.specs.Line.{is_price}
 use Rattle.send_lines.proofs.LineLaws.{line_none, line_text_lem, line_unknown, line_spelled}
 use Rattle.send_lines.proofs.line.said.Goals as goal
 
-pub returns-then-line-eq0 : goal.returns-then-line-eq0
-returns-then-line-eq0 c = rw (line_none _ _ _ _ _ c.if-line-eq0.true) wrote_none
+pub returns-then-is_empty : goal.returns-then-is_empty
+returns-then-is_empty c =
+    let empty = eqb-true (length c.args.line.now) 0 (sym c.is_empty.ensures ∙ c.if-is_empty.true) in
+    rw (line_none _ _ _ _ _ empty) wrote_none
 
-pub returns-then-same : goal.returns-then-same
-returns-then-same c =
+pub returns-then-eq : goal.returns-then-eq
+returns-then-eq c =
     let a = c.args in
-    rw (line_text_lem a.priced a.field a.mask a.number a.line.now c.if-line-eq0.false _ _ c.piece-word.ensures c.rest-text.ensures (c.same.ensures.0 c.if-same.true))
+    let some = eqb-false (length a.line.now) 0 (sym c.is_empty.ensures ∙ c.if-is_empty.false) in
+    let word = c.piece-word.result.now in
+    rw (line_text_lem (is_price a.job.task) a.job.field a.job.mask a.number a.line.now some word _ c.piece-word.ensures c.rest-text.ensures
+    (same_text word c.as_slice.result.now c.if-eq.ensures ∙ c.as_slice.ensures))
     c.of_data.ensures
 
-pub returns-then-command-gt2 : goal.returns-then-command-gt2
-returns-then-command-gt2 c =
+pub returns-in-Some : goal.returns-in-Some
+returns-in-Some c =
     let a = c.args in
-    let other : c.piece-word.result.now ≡ ascii "text" → ⊥ = λ e. false≢true (sym c.if-same.false ∙ c.same.ensures.1 e) in
-    rw (line_unknown a.priced a.field a.mask a.number a.line.now c.if-line-eq0.false _ _ c.piece-word.ensures c.rest-text.ensures other _ c.command_of-command.ensures c.if-command-gt2.true)
-    c.put_error.ensures
-
-pub returns : goal.returns
-returns c =
-    let a = c.args in
-    let other : c.piece-word.result.now ≡ ascii "text" → ⊥ = λ e. false≢true (sym c.if-same.false ∙ c.same.ensures.1 e) in
-    rw (line_spelled a.priced a.field a.mask a.number a.line.now c.if-line-eq0.false _ _ c.piece-word.ensures c.rest-text.ensures other _ c.command_of-command.ensures c.if-command-gt2.false)
+    let some = eqb-false (length a.line.now) 0 (sym c.is_empty.ensures ∙ c.if-is_empty.false) in
+    let word = c.piece-word.result.now in
+    let other = other_word word c.as_slice.result.now c.as_slice.ensures c.if-eq.ensures in
+    let known = named_is word c.in-Some.command (sym c.in-Some.is ∙ c.command_of.ensures) in
+    rw (line_spelled (is_price a.job.task) a.job.field a.job.mask a.number a.line.now some word _ c.piece-word.ensures c.rest-text.ensures other _ known.0 known.1)
     c.spelled.ensures
+
+pub returns-in-None : goal.returns-in-None
+returns-in-None c =
+    let a = c.args in
+    let some = eqb-false (length a.line.now) 0 (sym c.is_empty.ensures ∙ c.if-is_empty.false) in
+    let word = c.piece-word.result.now in
+    let other = other_word word c.as_slice.result.now c.as_slice.ensures c.if-eq.ensures in
+    let unknown = named_not word (sym c.in-None.is ∙ c.command_of.ensures) in
+    rw (line_unknown (is_price a.job.task) a.job.field a.job.mask a.number a.line.now some word _ c.piece-word.ensures c.rest-text.ensures other _ refl unknown)
+    c.put_error.ensures

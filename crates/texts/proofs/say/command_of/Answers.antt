@@ -1,18 +1,10 @@
 -- `texts::say::command_of` meets its contract, test by test.
 -- Assumes nothing.
-use mathlib.Core.Path.{◌≡◌, sym, ◌∙◌}
-use mathlib.Core.Bool.{false}
-use mathlib.Core.List.{List}
-use Prim.Native.Nat.{ℕ}
+use mathlib.Core.Path.{◌∙◌}
 use native.Mathlib.Omega.{arith}
-use lib.Dec.{eqb}
-use lib.Pointwise.{pointwise}
-use Rattle.std.specs.Cmp.Lexicographic.{same_text, other_text}
-use Rattle.texts.proofs.SayLaws.{command_ax25, command_long, command_generic, command_none, named_some, named_none}
+use Rattle.std.specs.Cmp.Lexicographic.{same_text}
+use Rattle.texts.proofs.SayLaws.{command_ax25, command_long, command_generic, command_none, other_word, named_some, named_none}
 use Rattle.texts.proofs.say.command_of.Goals as goal
-
-other_word : (w s : List ℕ) {t : List ℕ} → s ≡ t → false ≡ pointwise eqb w s → w ≡ t → ⊥
-other_word w s e h q = other_text w s h (q ∙ sym e)
 
 pub returns-then-eq : goal.returns-then-eq
 returns-then-eq c =
