@@ -2,6 +2,7 @@ pub mod Calls
 pub mod Checks
 pub mod Edges
 pub mod Flags
+pub mod Keepings
 pub mod NoSlot
 pub mod Parts
 pub mod Places

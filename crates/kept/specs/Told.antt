@@ -34,6 +34,11 @@ to_kept k = record { slots = map to_slot k.slots }
 
 -- ---- the calls
 
+-- ok with a place, or a refusal's number, beside kept states
+abbrev pub beside : Outcome ℕ → Kept → Keeping
+beside (refused n) k = record { ok = false; refusal = n; place = 0; kept = k }
+beside (answer i) k = record { ok = true; refusal = 0; place = i; kept = k }
+
 -- the place of a name beside the kept states that the call leaves, with flags that are 0 or 1; or a refusal's number beside the very struct that
 -- came in, which is what a refused call leaves
 abbrev pub to_keeping : Outcome ℕ → Kept → Keeping

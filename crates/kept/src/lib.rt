@@ -3,10 +3,10 @@
 
 ghost use Rattle.std.specs.Prelude.{◌≡◌, ◌<◌, ◌≤◌, max, length};
 ghost use Rattle.std.proofs.lemmas.List.Edits.{sets};
-ghost use Rattle.refusals.specs.Outcome.{refused, answer, number, outcome_of};
+ghost use Rattle.refusals.specs.Outcome.{number, outcome_of};
 ghost use Rattle.receiver.specs.Join.{code_of};
 ghost use Rattle.kept.specs.Keep.{name_ok, is_under, first_from, place_under, place_for, placed, slot_of, free_slot, with_slot, none_kept, start_of, part_of, size_refusal, refusal_in, kept_refusal, lent_refusal, keep_of, return_of, drop_of};
-ghost use Rattle.kept.specs.Told.{to_keeping, is_place, has_other_flag, to_slot, to_kept, to_keeping_with, to_dropped, return_after};
+ghost use Rattle.kept.specs.Told.{beside, is_place, has_other_flag, to_slot, to_kept, to_keeping_with, to_dropped, return_after};
 
 use receiver::{Reassembler, Stored, Tallies};
 use refusals::Refusal;
@@ -58,7 +58,11 @@ fn code(refusal: Option<Refusal>) -> u8
 fn larger(a: Option<Refusal>, b: Option<Refusal>) -> Option<Refusal>
     ensures { code_of result ≡ max (code_of a) (code_of b) }
 {
-    if code(a) < code(b) { b } else { a }
+    match (a, b) {
+        (None, _) => b,
+        (_, None) => a,
+        (Some(x), Some(y)) => if u8::from(x) < u8::from(y) { b } else { a },
+    }
 }
 
 impl Slot {
@@ -95,8 +99,8 @@ impl Slot {
     }
 
     // A state is kept here under this name; for no name, the slot is free.
-    fn is_under(self, name: &[u8]) -> bool
-        ensures { result ≡ is_under name.now self }
+    fn is_under(&self, name: &[u8]) -> bool
+        ensures { result ≡ is_under name.now self.now }
     {
         if name_ok(self.len) {
             return name == &self.name[..self.len];
@@ -105,8 +109,8 @@ impl Slot {
     }
 
     // The refusal of the state that is kept here, State or Mask; none where the slot is free.
-    fn refusal(self) -> Option<Refusal>
-        ensures { code_of result ≡ refusal_in self }
+    fn refusal(&self) -> Option<Refusal>
+        ensures { code_of result ≡ refusal_in self.now }
     {
         if !name_ok(self.len) {
             return None;
@@ -116,12 +120,12 @@ impl Slot {
     }
 
     // The same with a flag that is 0 or 1.
-    fn shown(self) -> Slot
-        ensures { result ≡ to_slot self }
+    fn shown(&self) -> Slot
+        ensures { result ≡ to_slot self.now }
     {
         Slot {
             receiver: Stored::from(Reassembler::from(self.receiver)),
-            ..self
+            ..*self
         }
     }
 }
@@ -191,15 +195,15 @@ impl Kept {
     }
 
     // The first slot under a name; for no name, the first that is free.
-    fn find(self, name: &[u8]) -> Option<usize>
-        ensures { result ≡ place_under name.now self.slots }
+    fn find(&self, name: &[u8]) -> Option<usize>
+        ensures { result ≡ place_under name.now self.now.slots }
     {
         self.slots.iter().position(|slot| slot.is_under(name))
     }
 
     // Where a name goes: its own slot, or the first that is free.
-    fn place_for(self, name: &[u8]) -> Option<usize>
-        ensures { result ≡ place_for name.now self.slots }
+    fn place_for(&self, name: &[u8]) -> Option<usize>
+        ensures { result ≡ place_for name.now self.now.slots }
     {
         let place = self.find(name);
         if place.is_some() {
@@ -209,8 +213,8 @@ impl Kept {
     }
 
     // The refusal of the kept states: State comes before Mask.
-    fn refusal(self) -> Option<Refusal>
-        ensures { code_of result ≡ kept_refusal self.slots }
+    fn refusal(&self) -> Option<Refusal>
+        ensures { code_of result ≡ kept_refusal self.now.slots }
     {
         let mut refusal = None;
         for slot in self.slots.iter() {
@@ -220,81 +224,66 @@ impl Kept {
     }
 
     // The same with the lent bytes for their stores.
-    fn lent_refusal(self, lent: usize) -> Option<Refusal>
-        ensures { code_of result ≡ lent_refusal self lent }
+    fn lent_refusal(&self, lent: usize) -> Option<Refusal>
+        ensures { code_of result ≡ lent_refusal self.now lent }
     {
         larger(size_refusal(lent, Kept::LENT), self.refusal())
     }
 
     // Some flag is neither 0 nor 1.
-    fn has_other_flag(self) -> bool
-        ensures { result ≡ is_place (first_from has_other_flag 0 self.slots) }
+    fn has_other_flag(&self) -> bool
+        ensures { result ≡ is_place (first_from has_other_flag 0 self.now.slots) }
     {
         self.slots.iter().any(|slot| 1 < slot.receiver.overflow)
     }
 
-    // The kept states with flags that are 0 or 1.
-    fn shown(self) -> Kept
-        ensures { result ≡ to_kept self }
+    // Makes all flags 0 or 1. Where they are already, nothing is written: the caller reads the struct by words right after a call.
+    fn show(&mut self)
+        ensures { self.new ≡ to_kept self.old }
     {
-        if !self.has_other_flag() {
-            return self;
-        }
-        Kept {
-            slots: self.slots.map(|slot| slot.shown()),
-        }
-    }
-
-    // A refused call leaves the kept states as they came.
-    fn refused(self, refusal: Refusal) -> Keeping
-        ensures { result ≡ to_keeping (refused (number refusal)) self }
-    {
-        Keeping {
-            ok: false,
-            refusal: u8::from(refusal),
-            place: 0,
-            kept: self,
+        if self.has_other_flag() {
+            for slot in self.slots.iter_mut() {
+                *slot = slot.shown();
+            }
         }
     }
 
-    // An accepted call hands back flags of 0 and 1, beside the slot that it wrote.
-    fn accepted(self, place: usize, slot: Slot) -> Keeping
-        requires { (place < length self.slots) × (to_slot slot ≡ slot) }
-        ensures { result ≡ to_keeping (answer place) (with_slot self place slot) }
+    // What a keep or a drop hands back, where it has written no slot.
+    fn answered(&self, placed: Result<usize, Refusal>) -> Keeping
+        ensures { result ≡ beside (outcome_of placed) self.now }
     {
-        let mut kept = self.shown();
-        kept.slots[place] = slot;
         Keeping {
-            ok: true,
-            refusal: 0,
-            place,
-            kept,
+            ok: placed.is_ok(),
+            refusal: code(placed.err()),
+            place: placed.unwrap_or(0),
+            kept: *self,
         }
     }
 
     // Keeps a receiver's state under a name, and its whole store in the lent bytes.
-    pub fn keep(self, receiver: Reassembler, store: &[u8], lent: &mut [u8], name: &[u8]) -> Keeping
-        ensures { (result, lent.new) ≡ to_keeping_with (keep_of self receiver store.now lent.old name.now) }
+    pub fn keep(&self, receiver: Reassembler, store: &[u8], lent: &mut [u8], name: &[u8]) -> Keeping
+        ensures { (result, lent.new) ≡ to_keeping_with (keep_of self.now receiver store.now lent.old name.now) }
     {
-        let kept = self.lent_refusal(lent.len());
-        let refusal = larger(receiver.state.refusal(store.len()), kept);
-        match placed(refusal, name.len(), Refusal::Kept, self.place_for(name)) {
-            Ok(place) => {
-                copy_in(lent, place, store);
-                self.accepted(place, Slot::named(name, receiver))
-            }
-            Err(refusal) => self.refused(refusal),
+        let state = receiver.state.refusal(store.len());
+        let refusal = larger(state, self.lent_refusal(lent.len()));
+        let placed = placed(refusal, name.len(), Refusal::Kept, self.place_for(name));
+        let mut keeping = self.answered(placed);
+        if let Ok(place) = placed {
+            keeping.kept.show();
+            keeping.kept.slots[place] = Slot::named(name, receiver);
+            copy_in(lent, place, store);
         }
+        keeping
     }
 
     // The state that is kept under a name, and its bytes to the store. The name stays kept.
     pub fn return_to(
-        self,
+        &self,
         store: &mut [u8],
         lent: &[u8],
         name: &[u8],
     ) -> Result<Reassembler, Refusal>
-        ensures { return_after result store.new ≡ return_of self store.old lent.now name.now }
+        ensures { return_after result store.new ≡ return_of self.now store.old lent.now name.now }
     {
         let size = size_refusal(store.len(), Reassembler::RX_BUFFER);
         let refusal = larger(size, self.lent_refusal(lent.len()));
@@ -304,13 +293,16 @@ impl Kept {
     }
 
     // Makes the slot of a name free. No lent byte is written.
-    pub fn drop_name(self, lent: &[u8], name: &[u8]) -> Keeping
-        ensures { result ≡ to_dropped (drop_of self lent.now name.now) }
+    pub fn drop_name(&self, lent: &[u8], name: &[u8]) -> Keeping
+        ensures { result ≡ to_dropped (drop_of self.now lent.now name.now) }
     {
         let refusal = self.lent_refusal(lent.len());
-        match placed(refusal, name.len(), Refusal::Name, self.find(name)) {
-            Ok(place) => self.accepted(place, Slot::free()),
-            Err(refusal) => self.refused(refusal),
+        let placed = placed(refusal, name.len(), Refusal::Name, self.find(name));
+        let mut keeping = self.answered(placed);
+        if let Ok(place) = placed {
+            keeping.kept.show();
+            keeping.kept.slots[place] = Slot::free();
         }
+        keeping
     }
 }

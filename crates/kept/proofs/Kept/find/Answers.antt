@@ -12,5 +12,5 @@ use Rattle.kept.proofs.Kept.find.Goals as goal
 pub returns : goal.returns
 returns c =
     let test = is_under c.args.name.now in
-    position_from_yields_List test _ _ _ c.position.ensures.ran (YieldsList-from_slice c.args.self.slots cc) (λ x b q k. search (rules, tests))
-    ∙ sym (first_position test c.args.self.slots)
+    position_from_yields_List test _ _ _ c.position.ensures.ran (YieldsList-from_slice c.args.self.now.slots cc) (λ x b q k. search (rules, tests))
+    ∙ sym (first_position test c.args.self.now.slots)

@@ -11,5 +11,5 @@ use Rattle.kept.proofs.Kept.has_other_flag.Goals as goal
 
 pub returns : goal.returns
 returns c =
-    any_from_yields_List has_other_flag _ _ _ c.any.ensures.ran (YieldsList-from_slice c.args.self.slots cc) (λ x b q k. search (rules, tests))
-    ∙ any_place has_other_flag 0 c.args.self.slots
+    any_from_yields_List has_other_flag _ _ _ c.any.ensures.ran (YieldsList-from_slice c.args.self.now.slots cc) (λ x b q k. search (rules, tests))
+    ∙ any_place has_other_flag 0 c.args.self.now.slots

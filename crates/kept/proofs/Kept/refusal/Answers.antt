@@ -13,7 +13,7 @@ use Rattle.kept.proofs.Kept.refusal.Goals as goal
 
 pub loop-slot-preserved : goal.loop-slot-preserved
 loop-slot-preserved c =
-    let slots = c.args.self.slots in
+    let slots = c.args.self.now.slots in
     let e : length slots ≡ 8 = search rules in
     let i = c.loop-slot.slot-index in
     c.loop-slot.invariant
@@ -23,5 +23,5 @@ loop-slot-preserved c =
 
 pub returns : goal.returns
 returns c =
-    let e : length c.args.self.slots ≡ 8 = search rules in
-    sym (c.loop-slot.invariant ∙ refusal_end (code_of c.loop-slot.refusal) c.args.self.slots c.loop-slot.slot-index (omega arith))
+    let e : length c.args.self.now.slots ≡ 8 = search rules in
+    sym (c.loop-slot.invariant ∙ refusal_end (code_of c.loop-slot.refusal) c.args.self.now.slots c.loop-slot.slot-index (omega arith))
