@@ -1,6 +1,8 @@
 -- The ways through the coder of a frame's head.
 -- Assumes nothing.
-use Rattle.std.proofs.Common.{Option}
+use Rattle.ax25_address.specs.Record.{alias_number}
+use Rattle.laws.proofs.Cases.{by_test, pick_true, pick_false}
+use Rattle.std.proofs.Common.{Option, is_some}
 use mathlib.Core.Path.{◌≡◌, refl, sym, ap, ◌∙◌}
 use mathlib.Core.Bool.{Bool, true, false, ◌&&◌}
 use mathlib.Core.List.{List, [], ◌∷◌, ◌++◌, map}
@@ -11,7 +13,7 @@ use lib.ListN.{length, get_or, take, drop}
 use lib.Seq.{get_or-take}
 use lib.Dec.{ltb, leb}
 use borrow.Author.Tests.{lt-ltb, le-ltb}
-use Rattle.laws.specs.Bits.{bits_of}
+use Rattle.laws.specs.Bits.{bits_of, Bytes}
 use Rattle.laws.specs.Pick.{pick}
 use Rattle.laws.specs.Wrote.{Wrote}
 use Rattle.laws.specs.Text.{upper}
@@ -22,7 +24,7 @@ use Rattle.ax25_token.specs.Token.{base_of, token_bits}
 use Rattle.ax25_token.proofs.PutLaws.{gave, bad, puts, puts_none, map_plain, map_up}
 use Rattle.ax25_token.proofs.Sizes.{token_size}
 use Rattle.ax25_address.specs.Address.{addr_call, heard_in}
-use Rattle.ax25_address.specs.Parse.{Parsed, fields_of, is_ap, alias_of}
+use Rattle.ax25_address.specs.Parse.{Parsed, fields_of, is_ap, alias_of, aliases, alias_from, same_all, alias_calls}
 use Rattle.ax25_address.proofs.AliasLaws.{room_next}
 use Rattle.ax25_address.proofs.PlaceLaws.{addr_cut}
 use Rattle.ax25_address.proofs.SizeLaws.{addr_base, upper_base}
@@ -173,12 +175,9 @@ alias_from_le k (a ∷ names) digis =
     (λ h. rw (pick_false k (alias_from (suc k) names digis) h) (omega (arith, alias_from_le (suc k) names digis)))
 
 pub alias_small : (vs : List (List ℕ)) → alias_of vs ≤ 6
-unfolding alias_of
+unfolding alias_of aliases
 alias_small [] = omega arith
-alias_small (v ∷ vs) = omega (arith, alias_from_le 1 aliases (v ∷ vs), alias_count)
-  where
-    alias_count : length aliases ≡ 5
-    alias_count = refl
+alias_small (v ∷ vs) = alias_from_le 1 aliases (v ∷ vs)
 
 -- the bit that says whether there is one
 alias_flag : (o : Option ℕ) → is_some o ≡ ltb 0 (alias_number o)

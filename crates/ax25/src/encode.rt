@@ -60,7 +60,15 @@ fn put_tokens(f: &[u8], l: usize, n: usize, out: &mut [u8], at: usize) -> Option
 }
 
 // The digipeaters: where the destination starts with AP a bit says whether they are an alias, else there are only tokens.
-fn put_digis(f: &[u8], l: usize, n: usize, ap: bool, alias: Option<usize>, out: &mut [u8], at: usize) -> Option<usize>
+fn put_digis(
+    f: &[u8],
+    l: usize,
+    n: usize,
+    ap: bool,
+    alias: Option<usize>,
+    out: &mut [u8],
+    at: usize,
+) -> Option<usize>
     requires { (n ≤ 8) × (2 ≤ l) × (l ≤ 7) × (n * (l + 1) ≤ length f.now) × (length f.now < 2 ^ 60) × (at < 2 ^ 59)
         × (alias_number alias ≡ alias_of (map (addr_call l) (fields_of l n f.now))) }
     ensures { Puts (unpack out.old) at (digi_bits l ap (map (addr_call l) (fields_of l n f.now))) (unpack out.new) result }
@@ -89,7 +97,7 @@ fn put_type(t: AprsType, ap: bool, out: &mut [u8], at: usize) -> usize
 // The bits before the body, behind the header byte: H bits, destination, source, digipeaters, type.
 fn put_head(frame: &[u8], command: u8, l: usize, r: Record, out: &mut [u8]) -> Option<usize>
     requires { (2 ≤ l) × (l ≤ 7) × (length frame.now < 2 ^ 56) × (Some (record_of r) ≡ seen_of command (parse_of l frame.now)) }
-    ensures { (p : Option<Record>) → parse_of l frame.now ≡ Some p
+    ensures { (p : Parsed) → parse_of l frame.now ≡ Some p
         → Puts (unpack out.old) 8 (head_bits l p (type_of command p)) (unpack out.new) result }
 {
     let digis = &frame[2 * (l + 1)..];
@@ -147,9 +155,16 @@ fn body_start(end: usize, ctrl: u8, pid: u8) -> usize
 }
 
 // The body behind the bits of the head.
-fn put_body(frame: &[u8], command: u8, l: usize, r: Record, out: &mut [u8], at: usize) -> Result<usize, Refusal>
+fn put_body(
+    frame: &[u8],
+    command: u8,
+    l: usize,
+    r: Record,
+    out: &mut [u8],
+    at: usize,
+) -> Result<usize, Refusal>
     requires { (2 ≤ l) × (l ≤ 7) × (length frame.now ≤ 4999) × (at < 2 ^ 54) × (Some (record_of r) ≡ seen_of command (parse_of l frame.now)) }
-    ensures { (p : Option<Record>) (head : List Bool) → parse_of l frame.now ≡ Some p → at ≡ 8 + length head
+    ensures { (p : Parsed) (head : List Bool) → parse_of l frame.now ≡ Some p → at ≡ 8 + length head
         → (type_of command p ≡ Text → last_or false head ≡ false)
         → Does (info_bits l p (type_of command p) head) (unpack out.old) at (unpack out.new) result }
 {

@@ -26,7 +26,7 @@ use Rattle.ax25_address.specs.Address.{white, half, addr_call, double, cut_to, s
 abbrev blanks : ℕ → List ℕ
 blanks k = replicate k 32
 
--- the address field of letters, with the byte behind them
+-- the address field of letters, with the byte after them
 unfoldable pub address_of : ℕ → List ℕ → ℕ → List ℕ
 address_of l letters e = map double (cut_to l letters) ++ (e ∷ [])
 
@@ -41,7 +41,7 @@ letters_solid [] e i h = absurd (not-suc-le-zero h)
 letters_solid (x ∷ b) e zero h = not_white x (⊎_elim (λ q. omega arith) (λ q. omega arith) (letter_or_digit x (clean_first x b e)))
 letters_solid (x ∷ b) e (suc i) h = letters_solid b (clean_rest x b e) i (le_of_suc-le-suc h)
 
--- ---- blanks behind the letters
+-- ---- blanks after the letters
 
 length_blanks : (n : ℕ) → length (blanks n) ≡ n
 length_blanks n = length-replicate {A = ℕ} n 32

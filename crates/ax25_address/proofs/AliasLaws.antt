@@ -65,7 +65,7 @@ module _ (l n i k : ℕ) (d : List ℕ) where
   pub alias_next : (n ≡ 0 → ⊥) → first ≡ true → others ≡ calls
   alias_next h e = sym (alias_step h ∙ ap (λ (t : Bool). t && others) e)
 
--- room for n fields is room for the first, and for the others behind it
+-- room for n fields is room for the first, and for the others after it
 pub room_next : (l n size : ℕ) → (n ≡ 0 → ⊥) → n * (l + 1) ≤ size → (l + 1 ≤ size) × ((n - 1) * (l + 1) ≤ size - (l + 1))
 room_next l n size h k =
     let e : n ≡ suc (n - 1) = omega arith in

@@ -11,7 +11,7 @@ use lib.ListN.{length, take, drop, get_or, set, replicate, length-map, drop_of_l
 use lib.Seq.{get_or_at, set_at, get_or-take, get_or-append-add}
 use lib.Dec.{eqb}
 use Rattle.laws.specs.Pick.{pick}
-use Rattle.laws.specs.Text.{ascii, between, upper, same}
+use Rattle.laws.specs.Text.{between, upper, same}
 use Rattle.laws.specs.Wrote.{Wrote}
 use Rattle.laws.proofs.ListLaws.{from_place}
 use Rattle.laws.proofs.WroteLaws.{wrote_then, wrote_as}
@@ -36,7 +36,7 @@ module _ (l : ℕ) (b : List ℕ) (i : ℕ) (h : i < l) where
   letter_is =
       get_or-map double (cut_to l (map upper b)) i 0 ∙ ap double (get_or-take l (map upper b ++ replicate l 32) i 0 h)
 
-  -- a letter that is there, and a blank behind the last
+  -- a letter that is there, and a blank after the last
   pub letter_there : (x : ℕ) → x ≡ upper (get_or b i 0) → i < length b → x % 128 * 2 ≡ get_or (field_letters l b) i 0
   unfolding double upper pick between
   letter_there x e k =

@@ -1,7 +1,7 @@
 -- The tests of the type: the scans step by step.
 -- Assumes nothing.
 use mathlib.Core.Path.{◌≡◌, ap₂, ◌∙◌}
-use mathlib.Core.Bool.{Bool, true, false, ◌&&◌, ◌||◌, and_assoc}
+use mathlib.Core.Bool.{true, false, ◌||◌}
 use mathlib.Core.List.{List}
 use Prim.Native.Nat.{ℕ, ◌+◌, ◌/◌, ◌≤◌, ◌<◌}
 use native.Mathlib.Numerals.{add-one}
@@ -12,9 +12,8 @@ use lib.Bits.{bit_or, or_shr}
 use lib.Dec.{leb, eqb}
 use borrow.Author.Tests.{le-leb, lt-leb}
 use Rattle.laws.specs.Pick.{pick}
-use Rattle.laws.specs.Text.{is_digit}
 use Rattle.laws.proofs.Cases.{by_test, by_le}
-use Rattle.ax25_address.specs.Classify.{any_high, one_of, marks_at, is_position, is_timestamped, stops_at, ends_at, tally, scan_third}
+use Rattle.ax25_address.specs.Classify.{any_high, stops_at, ends_at, tally, scan_third}
 
 -- ---- one bit of two bytes together
 

@@ -56,7 +56,7 @@ fields_next l k b n d e h =
     rw (e, split_yes (l + 1) d h, s)
     (counted_next n (take (l + 1) d) (digi_fields l k (get_or d l 0) (drop (l + 1) d)) _ (λ q. rw q) (λ p q. rw q))
 
--- ---- the fields behind n digipeaters
+-- ---- the fields after n digipeaters
 
 -- where they start
 abbrev pub end_of : ℕ → ℕ → ℕ

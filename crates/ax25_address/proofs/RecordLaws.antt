@@ -26,11 +26,6 @@ pub call_size : (command : ℕ) → (6 ≤ call_len command) × (call_len comman
 unfolding pick
 call_size command = by_test (eqb command 1) (λ e. rw e (omega arith, omega arith)) (λ e. rw e (omega arith, omega arith))
 
--- a record by its fields
-pub by_fields : (n : ℕ) (p : Bool) {c d e f a b t u : ℕ} → c ≡ d → e ≡ f → a ≡ b → t ≡ u
-    → ◌≡◌ {A = Seen} (record { digis = n; ap = p; ctrl = c; pid = e; alias = a; typ = t }) (record { digis = n; ap = p; ctrl = d; pid = f; alias = b; typ = u })
-by_fields n p g h i j = rw (g, h, i, j)
-
 module _ (command l : ℕ) (d : List ℕ) (letters : l ≡ call_len command) where
   at_letters : {s : Option Seen} → s ≡ seen_of command (parse_of l d) → s ≡ seen_of command (parse_of (call_len command) d)
   at_letters {s} e = subst (λ (k : ℕ). s ≡ seen_of command (parse_of k d)) letters e

@@ -3,15 +3,12 @@
 use mathlib.Core.Path.{◌≡◌, sym, ap, ◌∙◌}
 use mathlib.Core.Bool.{Bool, true, false}
 use mathlib.Core.List.{List}
-use Prim.Native.Nat.{ℕ, suc, ◌+◌, ◌-◌, ◌≤◌, ◌<◌}
+use Prim.Native.Nat.{ℕ, suc, ◌+◌, ◌-◌, ◌<◌}
 use native.Mathlib.Omega.{arith}
 use lib.ListN.{length, get_or, take, drop}
 use lib.Seq.{take-suc}
-use lib.Dec.{eqb}
-use borrow.Author.Tests.{le-leb, lt-leb, eq-eqb, ne_eqb}
 use Rattle.laws.specs.Pick.{pick}
-use Rattle.laws.specs.Text.{between, trim_front, trim_end, trim}
-use Rattle.laws.proofs.Cases.{by_le}
+use Rattle.laws.specs.Text.{trim_front, trim_end, trim}
 use Rattle.laws.proofs.ListLaws.{from_place}
 use Rattle.laws.proofs.TrimLaws.{end_on, end_here}
 use Rattle.ax25_address.specs.Address.{white, blank, white_in}

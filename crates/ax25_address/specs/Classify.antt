@@ -25,11 +25,11 @@ marks_at k d =
 unfoldable pub is_position : List ℕ → Bool
 is_position d = leb 20 (length d) && (one_of (get_or d 0 0) 0x21 0x3D && (is_digit (get_or d 1 0) && marks_at 1 d))
 
--- '@' or '/', a digit, 'h' behind six
+-- '@' or '/', a digit, 'h' after six
 unfoldable pub is_timestamped : List ℕ → Bool
 is_timestamped d = leb 27 (length d) && (one_of (get_or d 0 0) 0x40 0x2F && (is_digit (get_or d 1 0) && (eqb (get_or d 7 0) 0x68 && marks_at 8 d)))
 
--- ':', and ':' behind nine
+-- ':', and ':' after nine
 unfoldable pub is_message : List ℕ → Bool
 is_message d = leb 11 (length d) && (eqb (get_or d 0 0) 0x3A && eqb (get_or d 10 0) 0x3A)
 

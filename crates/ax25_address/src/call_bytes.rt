@@ -11,7 +11,7 @@ use ax25_token::Call;
 use ax25_token::encode::{cased, hyphen};
 use bits_write::byte;
 
-// A byte of the letters of a field: a capital, or a blank behind the last, shifted.
+// A byte of the letters of a field: a capital, or a blank after the last, shifted.
 fn letter_byte(b: &[u8], i: usize, l: usize) -> u8
     requires { i < l }
     ensures { result ≡ get_or (map double (cut_to l (map upper b.now))) i 0 }
@@ -50,7 +50,7 @@ fn ssid_of(s: &[u8]) -> u64
     }
 }
 
-// The SSID behind a hyphen at k, shifted; 0 where there is none.
+// The SSID after a hyphen at k, shifted; 0 where there is none.
 fn ssid_byte(c: &[u8], k: usize) -> u8
     requires { k ≡ length (base_of c.now) }
     ensures { result ≡ double (ssid_of (behind c.now)) }

@@ -30,7 +30,7 @@ fn one_of(x: u8, a: u8, b: u8) -> bool
     x == a || x == b
 }
 
-// Some byte is 0x80 or more.
+// Some byte is 0x80 or more. The bits of all bytes are gathered first, so that the loop has no branch.
 pub fn any_high(d: &[u8]) -> bool
     ensures { result ≡ any_high d.now }
 {
@@ -41,7 +41,7 @@ pub fn any_high(d: &[u8]) -> bool
     0x80 <= all
 }
 
-// One of two bytes, and a digit behind it.
+// One of two bytes, and a digit after it.
 #[tactic(auto, unfolding(laws::specs::Text::is_digit, laws::specs::Text::between))]
 pub fn opens(d: &[u8], a: u8, b: u8) -> bool
     requires { 2 ≤ length d.now }
@@ -56,7 +56,10 @@ fn marks_at(d: &[u8], k: usize) -> bool
     requires { k + 18 ≤ length d.now }
     ensures { result ≡ marks_at k d.now }
 {
-    d[k + 4] == b'.' && one_of(d[k + 7], b'N', b'S') && d[k + 14] == b'.' && one_of(d[k + 17], b'W', b'E')
+    d[k + 4] == b'.'
+        && one_of(d[k + 7], b'N', b'S')
+        && d[k + 14] == b'.'
+        && one_of(d[k + 17], b'W', b'E')
 }
 
 // '!' or '=', a digit, and the marks.
@@ -67,7 +70,7 @@ fn is_position(d: &[u8]) -> bool
     20 <= d.len() && opens(d, b'!', b'=') && marks_at(d, 1)
 }
 
-// '@' or '/', a digit, 'h' behind six, and the marks.
+// '@' or '/', a digit, 'h' after six, and the marks.
 #[tactic(auto, unfolding(crate::specs::Classify::is_timestamped))]
 fn is_timestamped(d: &[u8]) -> bool
     ensures { result ≡ is_timestamped d.now }
@@ -75,7 +78,7 @@ fn is_timestamped(d: &[u8]) -> bool
     27 <= d.len() && opens(d, b'@', b'/') && d[7] == b'h' && marks_at(d, 8)
 }
 
-// ':', and ':' behind nine.
+// ':', and ':' after nine.
 #[tactic(auto, unfolding(crate::specs::Classify::is_message))]
 fn is_message(d: &[u8]) -> bool
     ensures { result ≡ is_message d.now }
@@ -129,7 +132,7 @@ fn scan_third(d: &[u8]) -> bool
     false
 }
 
-// '}', and a header behind it.
+// '}', and a header after it.
 #[tactic(auto, unfolding(crate::specs::Classify::is_third))]
 fn is_third(d: &[u8]) -> bool
     ensures { result ≡ is_third d.now }

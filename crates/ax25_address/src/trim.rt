@@ -20,7 +20,7 @@ pub fn is_white(c: u8, call: bool) -> bool
     }
 }
 
-// Where the text starts: at the first byte that is no white space, or behind the last.
+// Where the text starts: at the first byte that is no white space, or after the last.
 pub fn front(s: &[u8], call: bool) -> usize
     ensures { (result ≤ length s.now) × (drop result s.now ≡ trim_front (white_in call) s.now) }
 {
@@ -32,7 +32,7 @@ pub fn front(s: &[u8], call: bool) -> usize
     s.len()
 }
 
-// Where the text ends: behind the last byte that is no white space.
+// Where the text ends: after the last byte that is no white space.
 pub fn end(s: &[u8], call: bool) -> usize
     ensures { (result ≤ length s.now) × (take result s.now ≡ trim_end (white_in call) s.now) }
 {

@@ -47,7 +47,7 @@ of_digits_lem n s t = (
   λ i h. let r = in_range_lem 48 57 s (and_right (eqb (length s) n) (in_range 48 57 s) t) i h in (r.0, omega (arith, r.1)),
 )
 
--- four digits behind each altitude's word
+-- four digits after each altitude's word
 altitude_ok : List ℕ → ℕ → Bool
 altitude_ok s i = not (starts (word 1) (drop i s)) || of_digits 4 (take 4 (drop (i + 5) s))
 

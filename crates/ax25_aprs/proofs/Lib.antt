@@ -1,6 +1,5 @@
 pub mod BodyBack
 pub mod CallLaws
-mod Dictionary
 pub mod Examples
 pub mod FieldLaws
 mod HeightLaws

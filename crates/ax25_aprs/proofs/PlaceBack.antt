@@ -174,7 +174,7 @@ side_bits_lem y n false h = rw (ne_eqb n y (λ e. h (sym e)), eq-eqb n n refl)
 
 -- ---- both
 
--- the position has bits that are read as it, with zeros behind them
+-- the position has bits that are read as it, with zeros after them
 pub record PlaceBack (s : Place) : Type 0 where
   pub coded : List Bool
   pub is_coded : latlon_bits (place_bytes s) ≡ answer coded

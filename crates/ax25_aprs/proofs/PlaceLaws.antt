@@ -1,6 +1,6 @@
 -- Positions by cases, for the code.
 -- Assumes nothing.
-use mathlib.Core.Path.{◌≡◌, refl, sym, ap, ap₂, ◌∙◌}
+use mathlib.Core.Path.{◌≡◌, refl, sym, ap, ◌∙◌}
 use mathlib.Core.Bool.{Bool, true, false}
 use mathlib.Core.List.{List, [], ◌∷◌, ◌++◌}
 use Rattle.std.proofs.Common.{None, Some}
@@ -8,9 +8,9 @@ use Prim.Native.Nat.{ℕ, zero, suc, ◌+◌, ◌-◌, ◌/◌, ◌^◌, ◌≤�
 use native.Mathlib.Nat.{zero-add, suc-add, add_comm, div-div-eq-div-mul}
 use native.Mathlib.Omega.{arith}
 use lib.ListN.{length, get_or, take, drop, length-append, length-take, length-drop}
-use lib.Seq.{drop-cons, drop-drop, take_at, drop_at}
+use lib.Seq.{drop-drop, take_at, drop_at}
 use lib.Pow.{pow-add}
-use borrow.Author.Tests.{lt-ltb, le-ltb, eq-eqb, ne_eqb}
+use borrow.Author.Tests.{lt-ltb, le-ltb}
 use Rattle.laws.specs.Bits.{bits_of, value_of}
 use Rattle.laws.specs.Digits.{digits}
 use Rattle.laws.specs.Pick.{pick, ◌>>=◌}
@@ -21,44 +21,11 @@ use Rattle.bits_write.specs.Write.{top_bits}
 use Rattle.refusals.specs.Outcome.{refused, answer}
 use Rattle.ax25_aprs.specs.Coded.{◌then◌, or_refused}
 use Rattle.ax25_aprs.specs.Text.{text_bits, padded, read_text}
-use Rattle.ax25_aprs.specs.LatLon.{side_bits, table_code, table_bits, lat_bits, lon_bits, place_bits, latlon_bits, dotted, field_of, side, table_end, table_text, lat_text, lon_text, read_latlon}
+use Rattle.ax25_aprs.specs.LatLon.{table_code, table_bits, lat_bits, lon_bits, place_bits, latlon_bits, dotted, field_of, side, table_end, table_text, lat_text, lon_text, read_latlon}
 use Rattle.ax25_aprs.specs.Body.{timestamped_bits, read_timestamped}
 use Rattle.ax25_aprs.proofs.TextLaws.{padded_few, padded_more, length_padded}
 
--- ---- bytes at known places
-
-gets : ℕ → ℕ → List ℕ → List ℕ
-gets zero i s = []
-gets (suc n) i s = get_or s i 0 ∷ gets n (suc i) s
-
-gets_are : (n i : ℕ) (s : List ℕ) → i + n ≤ length s → take n (drop i s) ≡ gets n i s
-unfolding gets
-gets_are zero i s h = refl
-gets_are (suc n) i s h = rw (drop-cons s i 0 (omega arith)) (ap (λ (l : List ℕ). get_or s i 0 ∷ l) (gets_are n (suc i) s (omega arith)))
-
-module _ (s : List ℕ) (h : 19 ≤ length s) where
-  pub lat_bytes : take 4 s ++ take 2 (drop 5 s) ≡ get_or s 0 0 ∷ get_or s 1 0 ∷ get_or s 2 0 ∷ get_or s 3 0 ∷ get_or s 5 0 ∷ get_or s 6 0 ∷ []
-  unfolding gets
-  lat_bytes = ap₂ (λ (x y : List ℕ). x ++ y) (gets_are 4 0 s (omega arith)) (gets_are 2 5 s (omega arith))
-
-  pub lon_bytes : take 5 (drop 9 s) ++ take 2 (drop 15 s) ≡ get_or s 9 0 ∷ get_or s 10 0 ∷ get_or s 11 0 ∷ get_or s 12 0 ∷ get_or s 13 0 ∷ get_or s 15 0 ∷ get_or s 16 0 ∷ []
-  unfolding gets
-  lon_bytes = ap₂ (λ (x y : List ℕ). x ++ y) (gets_are 5 9 s (omega arith)) (gets_are 2 15 s (omega arith))
-
 -- ---- coding
-
-module _ (y n c : ℕ) where
-  pub side_yes : c ≡ y → side_bits y n c ≡ true ∷ []
-  unfolding side_bits pick
-  side_yes e = rw (eq-eqb c y e)
-
-  pub side_no : (c ≡ y → ⊥) → c ≡ n → side_bits y n c ≡ false ∷ []
-  unfolding side_bits pick
-  side_no h e = rw (ne_eqb c y h, eq-eqb c n e)
-
-  pub side_none : (c ≡ y → ⊥) → (c ≡ n → ⊥) → side_bits y n c ≡ []
-  unfolding side_bits pick
-  side_none h k = rw (ne_eqb c y h, ne_eqb c n k)
 
 module _ (c : ℕ) where
   pub table_listed : table_code c < 8 → table_bits c ≡ (true ∷ []) ++ bits_of 3 (table_code c)
@@ -119,14 +86,6 @@ dotted_size k n v =
 pub field_at : (at x n : ℕ) (u : List Bool) → field_of x n (drop at u) ≡ value_of (take n (drop (at + x) u))
 unfolding field_of
 field_at at x n u = rw (drop-drop x at u)
-
-pub letter_yes : (y n : ℕ) (x : Bool) → x ≡ true → side y n x ≡ y
-unfolding side pick
-letter_yes y n x e = rw e
-
-pub letter_no : (y n : ℕ) (x : Bool) → x ≡ false → side y n x ≡ n
-unfolding side pick
-letter_no y n x e = rw e
 
 module _ (b : List Bool) where
   pub end_yes : get_or b 21 false ≡ true → table_end b ≡ 25

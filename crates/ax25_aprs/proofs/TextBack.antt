@@ -117,7 +117,7 @@ module _ (p : Bool) (s : List ℕ) (some_byte : 0 < length s) (printable : Print
       (λ t. front_word (rw t (altitude_text_lem s)) z (λ _. t)))
       (λ w. front_word (altitude_other p s w) z (λ e. absurd (w e))))
 
--- what holds of all bytes holds behind the first k
+-- what holds of all bytes holds after the first k
 printable_drop : (k : ℕ) (s : List ℕ) → Printable s → Printable (drop k s)
 printable_drop k s h i l = rw (get_or-drop k s i 0) (h (k + i) (omega (arith, length-drop k s)))
 
@@ -157,6 +157,6 @@ back_to (suc n) p s h pr al =
 pub text_back : (p : Bool) (s : List ℕ) → Printable s → (p ≡ true → Altitudes s) → Back p s
 text_back p s = back_to (length s) p s (omega arith)
 
--- with zeros behind it too
+-- with zeros after it too
 pub text_zeros : (p : Bool) (s : List ℕ) (b : Back p s) (z : ℕ) → read_text p (b.coded ++ replicate z false) ≡ s
 text_zeros p s b z = b.is_read (replicate z false) ∙ rw (read_zeros p z) (append-nil s)

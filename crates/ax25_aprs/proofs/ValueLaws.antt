@@ -14,7 +14,8 @@ use Rattle.laws.proofs.BitLaws.{value_take_suc}
 use Rattle.laws.proofs.ByteLaws.{length_unpack}
 use Rattle.laws.proofs.Cases.{by_le}
 use Rattle.bits.specs.Read.{take_bits, taken}
-use Rattle.bits.specs.declared.read.Taken.TheVariants.{Bits, Short}
+use Rattle.std.proofs.Common.{None, Some}
+use Rattle.std.proofs.lemmas.Option.{none-some, some_pair_parts}
 use Rattle.bits.proofs.ReadLaws.{taken_bits, take_yes, take_no}
 
 -- how many bits there are from a position on
@@ -29,39 +30,34 @@ take_min k l =
     (λ h. let e : min k (length l) ≡ length l = omega arith in rw (e, take_all (length l) l (omega arith), take_all k l (omega arith)))
 
 module _ (s : List ℕ) (at n : ℕ) (h : n ≤ length s * 8 - at) where
-  pub not_short : taken (at + n) (take_bits n (drop at (unpack s))) ≡ Short → ⊥
-  not_short e =
-      let f : Bits (value_of (take n (drop at (unpack s)))) (at + n) ≡ Short = sym (taken_bits s at n h) ∙ e in
-      let z : ◌≡◌ {A = ℕ} 0 1 = cc in
-      omega arith
+  pub not_short : taken (at + n) (take_bits n (drop at (unpack s))) ≡ None → ⊥
+  not_short e = none-some _ (sym (sym (taken_bits s at n h) ∙ e))
 
-  pub value_told : (v q : ℕ) → taken (at + n) (take_bits n (drop at (unpack s))) ≡ Bits v q → v ≡ value_of (take n (drop at (unpack s)))
-  value_told v q e =
-      let f : Bits (value_of (take n (drop at (unpack s)))) (at + n) ≡ Bits v q = sym (taken_bits s at n h) ∙ e in
-      cc
+  pub value_told : (v q : ℕ) → taken (at + n) (take_bits n (drop at (unpack s))) ≡ Some (v, q) → v ≡ value_of (take n (drop at (unpack s)))
+  value_told v q e = sym (some_pair_parts (value_of (take n (drop at (unpack s)))) v (at + n) q (sym (taken_bits s at n h) ∙ e)).0
+
+-- a reading of n bits at a position that gave a number and the next position
+pub record Got (u : List Bool) (at n v q : ℕ) : Type 0 where
+  pub value_is : v ≡ value_of (take n (drop at u))
+  pub next_is : q ≡ at + n
+  pub enough : n ≤ length (drop at u)
 
 -- the same of any bits, where the answer tells that they are there or that they are not
 module _ (u : List Bool) (at n : ℕ) where
-  pub told_is : (v q : ℕ) → taken (at + n) (take_bits n (drop at u)) ≡ Bits v q → (v ≡ value_of (take n (drop at u))) × (q ≡ at + n) × (n ≤ length (drop at u))
+  pub told_is : (v q : ℕ) → taken (at + n) (take_bits n (drop at u)) ≡ Some (v, q) → Got u at n v q
   unfolding taken
   told_is v q e =
       by_le n (length (drop at u))
       (λ h.
-      let f : Bits (value_of (take n (drop at u))) (at + n) ≡ Bits v q = ap (taken (at + n)) (sym (take_yes n (drop at u) h)) ∙ e in
-      (cc, cc, h))
-      (λ h.
-      let f : Short ≡ Bits v q = ap (taken (at + n)) (sym (take_no n (drop at u) h)) ∙ e in
-      let z : ◌≡◌ {A = ℕ} 0 1 = cc in
-      absurd (omega (arith, z)))
+      let f = some_pair_parts (value_of (take n (drop at u))) v (at + n) q (ap (taken (at + n)) (sym (take_yes n (drop at u) h)) ∙ e) in
+      record { value_is = sym f.0; next_is = sym f.1; enough = h })
+      (λ h. absurd (none-some (v, q) (ap (taken (at + n)) (sym (take_no n (drop at u) h)) ∙ e)))
 
-  pub told_few : taken (at + n) (take_bits n (drop at u)) ≡ Short → length (drop at u) < n
+  pub told_few : taken (at + n) (take_bits n (drop at u)) ≡ None → length (drop at u) < n
   unfolding taken
   told_few e =
       by_le n (length (drop at u))
-      (λ h.
-      let f : Bits (value_of (take n (drop at u))) (at + n) ≡ Short = ap (taken (at + n)) (sym (take_yes n (drop at u) h)) ∙ e in
-      let z : ◌≡◌ {A = ℕ} 0 1 = cc in
-      absurd (omega (arith, z)))
+      (λ h. absurd (none-some (value_of (take n (drop at u)), at + n) (sym (ap (taken (at + n)) (sym (take_yes n (drop at u) h)) ∙ e))))
       (λ h. h)
 
 num_test : (x : Bool) → eqb (num x) 1 ≡ x

@@ -3,18 +3,22 @@
 use mathlib.Core.Path.{◌≡◌, refl, sym, ap, ◌∙◌}
 use mathlib.Core.Bool.{Bool, true, false, ◌&&◌, and-false, false≢true}
 use mathlib.Core.List.{List, [], ◌∷◌}
+use Rattle.std.proofs.Common.{Option, None, Some}
+use Rattle.std.proofs.lemmas.Option.{none-some, same_Some}
+use Rattle.std.specs.List.{slice_get}
+use Rattle.std.specs.Option.{is_some}
 use Prim.Native.Nat.{ℕ, suc, ◌+◌, ◌-◌, ◌≤◌, ◌<◌}
-use native.Mathlib.Nat.{add-zero, add-suc, suc-add, le_antisymm}
+use native.Mathlib.Nat.{add-zero, add-suc, suc-add}
 use native.Mathlib.Omega.{arith}
 use lib.ListN.{length, get_or, take, drop, get_or-append}
-use lib.Seq.{take_at, drop-cons, get_or-drop}
+use lib.Seq.{take_at, get_or-drop}
 use lib.Dec.{leb, eqb}
 use borrow.Author.Tests.{leb-true, ne_eqb}
 use Rattle.laws.specs.Pick.{pick}
 use Rattle.laws.specs.Text.{starts}
 use Rattle.laws.proofs.Cases.{by_test, by_eq, and_left, and_right}
 use Rattle.laws.proofs.TextLaws.{below, at_each, starts_eq}
-use Rattle.ax25_aprs.specs.Words.{words, word, first_of, word_at}
+use Rattle.ax25_aprs.specs.Words.{words, word, first_of, word_at, Spells}
 use Rattle.ax25_aprs.specs.Openings.{first_letter, second_letter, may_open, has_mark, first_marks, second_marks, both_marked}
 
 pub starts_take : (w s : List ℕ) → starts w s ≡ true → take (length w) s ≡ w
@@ -145,6 +149,11 @@ short_marks (x ∷ y ∷ t) h = absurd (omega arith)
 pub none_short : (s : List ℕ) → length s ≤ 1 → word_at s ≡ 0
 none_short s h = none_by_two both_marked all_marked s (short_marks s h)
 
+-- no word starts a text of no byte
+pub word_none : (s : List ℕ) → None ≡ slice_get s 0 → word_at s ≡ 0
+word_none [] e = none_short [] (omega arith)
+word_none (x ∷ s) e = absurd (none-some x e)
+
 -- ---- the one word that starts with a letter
 
 off : {x n : ℕ} → (x ≡ n → ⊥) → eqb n x ≡ false
@@ -156,26 +165,33 @@ unfolding word_at first_of words starts pick
 no_letter x t a b c d e f g h i =
     rw (off a, off b, off c, off d, off e, off f, off g, off h, off i)
 
-module _ (s : List ℕ) (some_byte : length s ≡ 0 → ⊥) where
-  front_is : (x : ℕ) → get_or s 0 0 ≡ x → s ≡ x ∷ drop 1 s
-  front_is x e = drop-cons s 0 0 (omega arith) ∙ ap (λ (y : ℕ). y ∷ drop 1 s) e
+module _ (s : List ℕ) (x : ℕ) (first : Some x ≡ slice_get s 0) where
+  front_is : s ≡ x ∷ drop 1 s
+  front_is = by s first
+    where
+      by : (t : List ℕ) → Some x ≡ slice_get t 0 → t ≡ x ∷ drop 1 t
+      by [] e = absurd (none-some x (sym e))
+      by (y ∷ t) e = ap (λ (z : ℕ). z ∷ t) (sym (same_Some x y e))
 
-  pub by_letter : (x n : ℕ) (w : List ℕ) → ((t : List ℕ) → word_at (x ∷ t) ≡ pick (starts w (x ∷ t)) n 0) → get_or s 0 0 ≡ x → pick (starts w s) n 0 ≡ word_at s
-  by_letter x n w f e =
-      let q = front_is x e in
-      ap (λ (u : List ℕ). pick (starts w u) n 0) q ∙ sym (f (drop 1 s)) ∙ ap word_at (sym q)
+  -- the answer of the one word that starts with the letter
+  pub by_letter : (n : ℕ) (w : List ℕ) → ((t : List ℕ) → word_at (x ∷ t) ≡ pick (starts w (x ∷ t)) n 0) → 1 ≤ n → n ≤ 9
+      → (r : Option ℕ) → r ≡ pick (starts w s) (Some n) None → Spells s r
+  unfolding pick
+  by_letter n w f low high r e =
+      let told : word_at s ≡ pick (starts w s) n 0 = ap word_at front_is ∙ f (drop 1 s) ∙ ap (λ (u : List ℕ). pick (starts w u) n 0) (sym front_is) in
+      by_test (starts w s)
+      (λ t. rw (e, t) (rw t at told, low, high))
+      (λ t. rw (e, t) (rw t at told))
 
-  pub by_no_letter : (get_or s 0 0 ≡ 47 → ⊥) → (get_or s 0 0 ≡ 86 → ⊥) → (get_or s 0 0 ≡ 80 → ⊥) → (get_or s 0 0 ≡ 72 → ⊥) → (get_or s 0 0 ≡ 97 → ⊥) → (get_or s 0 0 ≡ 65 → ⊥) → (get_or s 0 0 ≡ 112 → ⊥) → (get_or s 0 0 ≡ 68 → ⊥) → (get_or s 0 0 ≡ 71 → ⊥) → word_at s ≡ 0
-  by_no_letter a b c d e f g h i =
-      ap word_at (front_is (get_or s 0 0) refl) ∙ no_letter (get_or s 0 0) (drop 1 s) a b c d e f g h i
+  pub by_no_letter : (x ≡ 47 → ⊥) → (x ≡ 86 → ⊥) → (x ≡ 80 → ⊥) → (x ≡ 72 → ⊥) → (x ≡ 97 → ⊥) → (x ≡ 65 → ⊥) → (x ≡ 112 → ⊥) → (x ≡ 68 → ⊥) → (x ≡ 71 → ⊥) → word_at s ≡ 0
+  by_no_letter a b c d e f g h i = ap word_at front_is ∙ no_letter x (drop 1 s) a b c d e f g h i
 
--- ---- the last word
+-- ---- an answer
 
-above : {n a : ℕ} → a ≤ n → (n ≡ a → ⊥) → suc a ≤ n
-above h f = omega arith
+pub spells_some : (s : List ℕ) (r : Option ℕ) → is_some r ≡ true → Spells s r → word_at s ≡ 0 → ⊥
+spells_some s None e h z = false≢true e
+spells_some s (Some n) e h z = omega (arith, h)
 
-pub last_size : {n : ℕ} → 1 ≤ n → n ≤ 9 → (n ≡ 1 → ⊥) → (n ≡ 2 → ⊥) → (n ≡ 3 → ⊥) → (n ≡ 4 → ⊥) → (n ≡ 5 → ⊥) → (n ≡ 6 → ⊥) → (n ≡ 7 → ⊥) → (n ≡ 8 → ⊥) → length (word n) ≡ 4
-unfolding word words
-last_size {n} p q a b c d e f g h =
-    let nine : n ≡ 9 = le_antisymm q (above (above (above (above (above (above (above (above p a) b) c) d) e) f) g) h) in
-    rw nine
+pub spells_none : (s : List ℕ) (r : Option ℕ) → is_some r ≡ false → Spells s r → word_at s ≡ 0
+spells_none s None e h = h
+spells_none s (Some n) e h = absurd (false≢true (sym e))

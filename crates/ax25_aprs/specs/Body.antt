@@ -29,7 +29,7 @@ read_timestamped b =
 unfoldable pub call_of : List ℕ → List ℕ
 call_of s = map upper (trim white s)
 
--- the addressee's token, 4 for a bad call, and the text behind the second ':'
+-- the addressee's token, 4 for a bad call, and the text after the second ':'
 unfoldable pub message_bits : ℕ → List ℕ → Outcome (List Bool)
 message_bits l s = or_refused 4 (token_bits l (call_of (take 9 s))) then or_refused 5 (text_bits false (drop 10 s))
 
@@ -38,7 +38,7 @@ read_message mended l b = do
   (c, r) ← read_token mended l b
   Some (0x3A ∷ filled 9 c ++ 0x3A ∷ read_text false r)
 
--- a body behind its type byte (Text: from its first byte), by type; l is the call length
+-- a body after its type byte (Text: from its first byte), by type; l is the call length
 unfoldable pub body_bits : ℕ → ℕ → List ℕ → Outcome (List Bool)
 body_bits typ l s =
     pick (eqb typ Text) (or_refused 5 (text_bits false s))

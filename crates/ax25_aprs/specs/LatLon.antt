@@ -1,4 +1,4 @@
--- `latlon_encode` and `latlon_decode`: a position behind its type byte.
+-- `latlon_encode` and `latlon_decode`: a position after its type byte.
 -- Assumes nothing.
 use Rattle.std.specs.Prelude.{Bool, true, false, List, [], ◌∷◌, ◌++◌, ℕ, ◌+◌, length, get_or, take, drop, eqb, ltb}
 use Rattle.std.specs.Prelude.{Option, None, Some}
@@ -57,7 +57,7 @@ latlon_bits s = pick (ltb (length s) 19) (refused 3) (answer (place_bits s) then
 
 -- ---- reading
 
--- a dot behind the first n
+-- a dot after the first n
 unfoldable pub dotted : ℕ → List ℕ → List ℕ
 dotted n ds = take n ds ++ 46 ∷ drop n ds
 
@@ -68,7 +68,7 @@ field_of at n b = value_of (take n (drop at b))
 unfoldable pub side : ℕ → ℕ → Bool → ℕ
 side y n x = pick x y n
 
--- behind the bit that says so, a table by its place in 3 bits or else in 7: where the longitude starts, and the table
+-- after the bit that says so, a table by its place in 3 bits or else in 7: where the longitude starts, and the table
 unfoldable pub table_end : List Bool → ℕ
 table_end b = pick (get_or b 21 false) 25 29
 

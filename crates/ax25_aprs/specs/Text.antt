@@ -59,7 +59,7 @@ front_bits p s =
 unfoldable pub front_size : Bool → List ℕ → ℕ
 front_size p s = pick (altitude_at p s) 9 (pick (eqb (word_at s) 0) 1 (length (word (word_at s))))
 
--- the text behind its first k bytes
+-- the text after its first k bytes
 unfoldable pub text_from : Bool → ℕ → List ℕ → Option (List Bool)
 text_from p k [] = Some []
 text_from p zero (c ∷ cs) = joined (front_bits p (c ∷ cs)) (text_from p (front_size p (c ∷ cs) - 1) cs)
@@ -75,12 +75,12 @@ text_bits p s = text_from p 0 s
 unfoldable pub padded : ℕ → ℕ → List ℕ
 padded n v = pick (ltb v (10 ^ n)) (digits n v) (digits (suc n) v)
 
--- in a position type the number behind the first word: of 14 bits, or of as many as there are
+-- in a position type the number after the first word: of 14 bits, or of as many as there are
 unfoldable pub altitude_text : Bool → List Bool → List ℕ
 altitude_text p b = pick p (padded 4 (value_of (take 14 b))) []
 
 -- "each 7-bit code is read by range: 0 nothing, 1 a word and in position types a 14-bit altitude, 2 to 9 words, 10 to 31 nothing, from 32
--- itself"; b are the bits behind it
+-- itself"; b are the bits after it
 unfoldable pub code_text : Bool → ℕ → List Bool → List ℕ
 code_text p c b =
     pick (eqb c 0) []
@@ -88,11 +88,11 @@ code_text p c b =
     (pick (leb c 9) (word c)
     (pick (leb c 31) [] (c ∷ []))))
 
--- how many bits it takes behind it
+-- how many bits it takes after it
 unfoldable pub code_span : Bool → ℕ → ℕ
 code_span p c = pick (p && eqb c 1) 14 0
 
--- the text behind the first k bits
+-- the text after the first k bits
 unfoldable pub read_from : Bool → ℕ → List Bool → List ℕ
 read_from p k [] = []
 read_from p zero (x ∷ b) =

@@ -58,7 +58,7 @@ module _ (l : ℕ) where
       (answer (bits_of 2 2) then body_bits Message l (x ∷ d))
       (answer (bits_of 2 3) then body_bits Text l (c ∷ x ∷ d))))
 
-  -- the third call, up to '*', behind which one byte is skipped; without it nothing is
+  -- the third call, up to '*', after which one byte is skipped; without it nothing is
   unfoldable pub last_field : Field → List ℕ → Outcome (List Bool)
   last_field short d = refused 3
   last_field (ended s r) d = call_part s then inner_bits (drop 1 r)
@@ -70,7 +70,7 @@ module _ (l : ℕ) where
   path_field (ended s r) = last_field (collect_of 0x2A 10 r) r
   path_field (full s) = refused 5
 
-  -- the body behind '}'
+  -- the body after '}'
   unfoldable pub third_bits : List ℕ → Outcome (List Bool)
   third_bits d =
       call_field (collect_of 0x3E 10 d) d

@@ -1,6 +1,7 @@
 -- DICTIONARY, the words of position text and messages.
 -- Assumes nothing.
-use Rattle.std.specs.Prelude.{List, [], ◌∷◌, ℕ, suc, ◌-◌, get_or}
+use Rattle.std.specs.Prelude.{◌≡◌, List, [], ◌∷◌, ℕ, suc, ◌-◌, ◌≤◌, get_or}
+use Rattle.std.specs.Prelude.{Option, None, Some}
 use Rattle.laws.specs.Pick.{pick}
 use Rattle.laws.specs.Text.{ascii, starts}
 
@@ -14,20 +15,6 @@ words =
 unfoldable pub word : ℕ → List ℕ
 word n = get_or words (n - 1) []
 
--- the words as the code has them: eight letters a word, with zeros after it
-unfoldable pub word_letters : List ℕ
-word_letters =
-    47 ∷ 65 ∷ 61 ∷ 48 ∷ 48 ∷ 0 ∷ 0 ∷ 0 ∷
-    86 ∷ 65 ∷ 82 ∷ 65 ∷ 0 ∷ 0 ∷ 0 ∷ 0 ∷
-    80 ∷ 105 ∷ 110 ∷ 80 ∷ 111 ∷ 105 ∷ 110 ∷ 116 ∷
-    72 ∷ 70 ∷ 32 ∷ 0 ∷ 0 ∷ 0 ∷ 0 ∷ 0 ∷
-    97 ∷ 99 ∷ 107 ∷ 0 ∷ 0 ∷ 0 ∷ 0 ∷ 0 ∷
-    65 ∷ 80 ∷ 82 ∷ 83 ∷ 0 ∷ 0 ∷ 0 ∷ 0 ∷
-    112 ∷ 105 ∷ 110 ∷ 103 ∷ 123 ∷ 0 ∷ 0 ∷ 0 ∷
-    68 ∷ 105 ∷ 103 ∷ 105 ∷ 0 ∷ 0 ∷ 0 ∷ 0 ∷
-    71 ∷ 97 ∷ 116 ∷ 101 ∷ 0 ∷ 0 ∷ 0 ∷ 0 ∷
-    []
-
 -- the code of the first of these words that s starts with, counted from k; 0 where there is none
 unfoldable pub first_of : ℕ → List (List ℕ) → List ℕ → ℕ
 first_of k [] s = 0
@@ -36,3 +23,8 @@ first_of k (w ∷ ws) s = pick (starts w s) k (first_of (suc k) ws s)
 -- the code of the word that s starts with; 0 where there is none
 unfoldable pub word_at : List ℕ → ℕ
 word_at s = first_of 1 words s
+
+-- the code of the word that s starts with, or none where there is none
+abbrev pub Spells : List ℕ → Option ℕ → Type 0
+Spells s None = word_at s ≡ 0
+Spells s (Some n) = (word_at s ≡ n) × (1 ≤ n) × (n ≤ 9)

@@ -1,32 +1,13 @@
-// Bytes as words, and fields of bits as numbers.
+// Fields of bits as numbers.
 ghost use Rattle.std.specs.Prelude.{◌≡◌, false, ◌-◌, ◌*◌, ◌^◌, ◌≤◌, ◌<◌, length, get_or, take, drop};
 ghost use Rattle.laws.specs.Bits.{value_of, unpack};
-
-use bits::read::Taken;
-
-// A byte as a word.
-pub fn wide(x: u8) -> u64
-    ensures { result ≡ x }
-{
-    x as u64
-}
-
-// A word as a byte.
-pub fn narrow(x: u64) -> u8
-    requires { x < 256 }
-    ensures { result ≡ x }
-{
-    x as u8
-}
 
 // The n bits from a position on, as a number.
 pub fn value(s: &[u8], at: usize, n: usize) -> u64
     requires { (n ≤ 64) × (n ≤ length s.now * 8 - at) × (length s.now < 2 ^ 60) }
     ensures { result ≡ value_of (take n (drop at (unpack s.now))) }
 {
-    let Taken::Bits(v, _) = bits::reader::take_at(s, at, n) else {
-        return 0;
-    };
+    let (v, _) = bits::reader::take_at(s, at, n).unwrap();
     v
 }
 

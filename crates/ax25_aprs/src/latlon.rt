@@ -1,5 +1,5 @@
-// Positions behind their type byte: `latlon_encode` and `latlon_decode` of the source.
-ghost use Rattle.std.specs.Prelude.{◌≡◌, ◌∷◌, ◌++◌, ◌+◌, ◌/◌, ◌^◌, ◌≤◌, ◌<◌, eqb, length, get_or, take, drop};
+// Positions after their type byte: `latlon_encode` and `latlon_decode` of the source.
+ghost use Rattle.std.specs.Prelude.{◌≡◌, true, ◌∷◌, ◌++◌, ◌+◌, ◌/◌, ◌^◌, ◌≤◌, ◌<◌, length, get_or, take, drop, MatchOption};
 ghost use Rattle.laws.specs.Bits.{unpack};
 ghost use Rattle.laws.specs.Digits.{digits};
 ghost use Rattle.laws.specs.Wrote.{Wrote};
@@ -9,10 +9,9 @@ ghost use Rattle.ax25_aprs.specs.Place.{table_of, half_text, place_text};
 ghost use Rattle.ax25_aprs.specs.Put.{Does, Reads};
 ghost use Rattle.ax25_aprs.specs.Text.{padded};
 
-use crate::part::Part;
-use crate::place::{Found, Place, place_at};
-use crate::{field, number, text};
-use bits::read::Got;
+use crate::place::{Place, place_at};
+use crate::{number, text};
+use refusals::Refusal;
 
 const SYMBOL_TABLES: [u8; 8] = *b"/\\IRVTDS";
 
@@ -35,32 +34,34 @@ fn lon(s: &[u8]) -> u64
 }
 
 // The bit of one of two letters; of any other, none. The next position.
+#[tactic(auto, unfolding(crate::specs::LatLon::side_bits, laws::specs::Pick::pick))]
 fn put_side(out: &mut [u8], at: usize, c: u8, y: u8, n: u8) -> usize
     requires { at < 2 ^ 62 }
     ensures { Wrote (unpack out.old) at (side_bits y n c) (unpack out.new) result }
 {
     if c == y {
-        return bits_write::bit(out, at, true);
+        bits_write::bit(out, at, true)
+    } else if c == n {
+        bits_write::bit(out, at, false)
+    } else {
+        at
     }
-    if c == n {
-        return bits_write::bit(out, at, false);
-    }
-    at
 }
 
-// The place of a symbol table among SYMBOL_TABLES, and 8 of a byte that is not in SYMBOL_TABLES_CODED.
-fn table_code(c: u8) -> u64
-    ensures { result ≡ table_code c }
+// The place of a symbol table among SYMBOL_TABLES, where the byte is in SYMBOL_TABLES_CODED.
+#[tactic(auto, unfolding(crate::specs::LatLon::table_code, laws::specs::Pick::pick))]
+fn table_code(c: u8) -> Option<u64>
+    ensures { MatchOption result (table_code c ≡ 8) (λ k. (table_code c ≡ k) × (k < 8)) }
 {
     match c {
-        b'/' => 0,
-        b'\\' => 1,
-        b'I' => 2,
-        b'R' => 3,
-        b'V' => 4,
-        b'D' => 6,
-        b'S' => 7,
-        _ => 8,
+        b'/' => Some(0),
+        b'\\' => Some(1),
+        b'I' => Some(2),
+        b'R' => Some(3),
+        b'V' => Some(4),
+        b'D' => Some(6),
+        b'S' => Some(7),
+        _ => None,
     }
 }
 
@@ -69,13 +70,16 @@ fn put_table(out: &mut [u8], at: usize, c: u8) -> usize
     requires { at + 1 < 2 ^ 62 }
     ensures { Wrote (unpack out.old) at (table_bits c) (unpack out.new) result }
 {
-    let code = table_code(c);
-    if code < 8 {
-        let behind = bits_write::bit(out, at, true);
-        return bits_write::push(out, behind, code, 3);
+    match table_code(c) {
+        Some(code) => {
+            let next = bits_write::bit(out, at, true);
+            bits_write::push(out, next, code, 3)
+        }
+        None => {
+            let next = bits_write::bit(out, at, false);
+            bits_write::push_bfi(out, next, u64::from(c), 7)
+        }
     }
-    let behind = bits_write::bit(out, at, false);
-    bits_write::push_bfi(out, behind, field::wide(c), 7)
 }
 
 // Latitude, N or S, table. The next position.
@@ -95,16 +99,16 @@ fn put_lon(s: &[u8], out: &mut [u8], at: usize) -> usize
 {
     let p = bits_write::push_bfi(out, at, lon(s), 21);
     let q = put_side(out, p, s[17], b'W', b'E');
-    bits_write::push_bfi(out, q, field::wide(s[18]), 7)
+    bits_write::push_bfi(out, q, u64::from(s[18]), 7)
 }
 
 // A position from a bit position on; on a refusal nothing is said of the output.
-pub fn latlon_encode(s: &[u8], out: &mut [u8], at: usize) -> Part
+pub fn latlon_encode(s: &[u8], out: &mut [u8], at: usize) -> Result<usize, Refusal>
     requires { (length s.now < 2 ^ 56) × (at < 2 ^ 60) }
     ensures { Does (latlon_bits s.now) (unpack out.old) at (unpack out.new) result }
 {
     if s.len() < 19 {
-        return Part::Refused(refusals::SHORT);
+        return Err(Refusal::Short);
     }
     let p = put_lat(s, out, at);
     let q = put_lon(s, out, p);
@@ -121,45 +125,43 @@ fn put_around(out: &mut [u8], to: usize, k: usize, m: usize, v: u64) -> usize
     number::put_digits(out, q, m, v)
 }
 
-// v in n digits, or in one more, with a dot behind the first k. The next place.
+// v in n digits, or in one more, with a dot after the first k. The next place.
 fn put_dotted(out: &mut [u8], to: usize, k: usize, n: usize, v: u64) -> usize
     requires { (k ≤ n) × (n < 8) × (0 < k) × (to < 2 ^ 60) }
     ensures { Wrote out.old to (dotted k (padded n v)) out.new result }
 {
-    if v < number::ten(n) {
-        return put_around(out, to, k, n - k, v);
-    }
-    put_around(out, to, k, n + 1 - k, v)
+    let m = if v < number::ten(n) { n - k } else { n + 1 - k };
+    put_around(out, to, k, m, v)
 }
 
 // One of two letters, by a bit.
-fn side_of(x: u64, y: u8, n: u8) -> u8
-    ensures { result ≡ side y n (eqb x 1) }
+#[tactic(auto, unfolding(crate::specs::LatLon::side, laws::specs::Pick::pick))]
+fn side_of(x: bool, y: u8, n: u8) -> u8
+    ensures { result ≡ side y n x }
 {
-    if x == 1 {
-        return y;
-    }
-    n
+    if x { y } else { n }
 }
 
 // A symbol table by its place.
+#[tactic(auto, unfolding(crate::specs::LatLon::tables))]
 fn table_byte(k: u64) -> u8
     requires { k < 8 }
     ensures { result ≡ get_or tables k 0 }
 {
-    let i = k as usize;
-    SYMBOL_TABLES[i]
+    SYMBOL_TABLES[k as usize]
 }
 
 // A symbol table: by its place where the bit before it says so, else the byte itself.
-fn table_of(listed: u64, table: u64) -> u8
-    requires { (table < 128) × (listed ≡ 1 → table < 8) }
+#[tactic(auto, unfolding(crate::specs::Place::table_of, laws::specs::Pick::pick))]
+fn table_of(listed: bool, table: u64) -> u8
+    requires { (table < 128) × (listed ≡ true → table < 8) }
     ensures { result ≡ table_of listed table }
 {
-    if listed == 1 {
-        return table_byte(table);
+    if listed {
+        table_byte(table)
+    } else {
+        table as u8
     }
-    field::narrow(table)
 }
 
 // A number with a dot, a letter and a byte. The next place.
@@ -174,25 +176,22 @@ fn put_half(k: usize, n: usize, v: u64, letter: u8, last: u8, out: &mut [u8], to
 
 // The text of a position's numbers. The next place.
 fn put_place(x: Place, out: &mut [u8], to: usize) -> usize
-    requires { (x.table < 128) × (x.listed ≡ 1 → x.table < 8) × (x.symbol < 128) × (to < 2 ^ 58) }
+    requires { (x.table < 128) × (x.listed ≡ true → x.table < 8) × (x.symbol < 128) × (to < 2 ^ 58) }
     ensures { Wrote out.old to (place_text x) out.new result }
 {
     let north = side_of(x.north, b'N', b'S');
     let table = table_of(x.listed, x.table);
     let p = put_half(4, 6, x.lat, north, table, out, to);
     let west = side_of(x.west, b'W', b'E');
-    let symbol = field::narrow(x.symbol);
-    put_half(5, 7, x.lon, west, symbol, out, p)
+    put_half(5, 7, x.lon, west, x.symbol as u8, out, p)
 }
 
 // The position that stands from a bit on, written from a place of the output on; where there is none, nothing is said of the output.
-pub fn latlon_decode(s: &[u8], at: usize, out: &mut [u8], to: usize) -> Got
+pub fn latlon_decode(s: &[u8], at: usize, out: &mut [u8], to: usize) -> Option<usize>
     requires { (length s.now < 2 ^ 55) × (at < 2 ^ 60) × (to < 2 ^ 55) }
     ensures { Reads (read_latlon (drop at (unpack s.now))) out.old to out.new result }
 {
-    let Found::At(x) = place_at(s, at) else {
-        return Got::Nothing;
-    };
+    let x = place_at(s, at)?;
     let p = put_place(x, out, to);
-    Got::Next(text::text_decode(s, x.next, true, out, p))
+    Some(text::text_decode(s, x.next, true, out, p))
 }

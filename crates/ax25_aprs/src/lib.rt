@@ -6,7 +6,6 @@ pub mod field;
 mod height;
 pub mod latlon;
 mod number;
-pub mod part;
 mod place;
 mod runs;
 pub mod text;

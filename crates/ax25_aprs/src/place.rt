@@ -1,129 +1,53 @@
-// A position's readings, latitude to symbol: one reader takes them in turn, and what is done about the answers is done after.
-ghost use Rattle.std.specs.Prelude.{◌≡◌, ◌^◌, ◌<◌, length};
+// A position's numbers, latitude to symbol: one reader takes them in turn.
+ghost use Rattle.std.specs.Prelude.{◌≡◌, ◌^◌, ◌≤◌, ◌<◌, length};
+ghost use Rattle.laws.specs.Pick.{pick};
 ghost use Rattle.laws.specs.Bits.{unpack};
-ghost use Rattle.ax25_aprs.specs.Place.{width_of, Answered, found_of, Placed};
+ghost use Rattle.ax25_aprs.specs.Place.{Placed};
 
-use bits::read::Taken;
 use bits::reader::Reader;
 
-// The answers of a position's readings, in their order.
-#[derive(Clone, Copy)]
-pub struct Answers {
-    pub lat: Taken,
-    pub north: Taken,
-    pub listed: Taken,
-    pub table: Taken,
-    pub lon: Taken,
-    pub west: Taken,
-    pub symbol: Taken,
-}
-
 // The numbers of a position, and the next bit position.
-#[derive(Clone, Copy)]
+#[derive(Clone, Copy, Debug, PartialEq, Eq)]
 pub struct Place {
     pub lat: u64,
-    pub north: u64,
-    pub listed: u64,
+    pub north: bool,
+    pub listed: bool,
     pub table: u64,
     pub lon: u64,
-    pub west: u64,
+    pub west: bool,
     pub symbol: u64,
     pub next: usize,
 }
 
-// A position, or too few bits.
-#[derive(Clone, Copy)]
-pub enum Found {
-    At(Place),
-    Nothing,
-}
-
 // How many bits a symbol table has: 3 by its place in the list, else 7.
-fn width(listed: Taken) -> usize
-    ensures { result ≡ width_of listed }
+#[tactic(auto, unfolding(laws::specs::Pick::pick))]
+fn width(listed: bool) -> usize
+    ensures { (result ≡ pick listed 3 7) × (result ≤ 7) }
 {
-    let Taken::Bits(x, _) = listed else {
-        return 7;
-    };
-    if x == 1 {
-        return 3;
-    }
-    7
+    if listed { 3 } else { 7 }
 }
 
-// Latitude, N or S, whether the table is by its place, table, longitude, W or E, symbol.
-fn answers_at(s: &[u8], at: usize) -> Answers
-    requires { length s.now < 2 ^ 60 }
-    ensures { Answered (unpack s.now) at result }
-{
-    let mut r = Reader { bytes: s, at };
-    let lat = r.take(20);
-    let north = r.bit();
-    let listed = r.bit();
-    let bits = width(listed);
-    let table = r.take(bits);
-    let lon = r.take(21);
-    let west = r.bit();
-    let symbol = r.take(7);
-    Answers {
-        lat,
-        north,
-        listed,
-        table,
-        lon,
-        west,
-        symbol,
-    }
-}
-
-// The numbers of the answers, where none of them is short.
-fn numbers_of(r: Answers) -> Found
-    ensures { result ≡ found_of r }
-{
-    let answer = r.lat;
-    let Taken::Bits(lat, _) = answer else {
-        return Found::Nothing;
-    };
-    let answer = r.north;
-    let Taken::Bits(north, _) = answer else {
-        return Found::Nothing;
-    };
-    let answer = r.listed;
-    let Taken::Bits(listed, _) = answer else {
-        return Found::Nothing;
-    };
-    let answer = r.table;
-    let Taken::Bits(table, _) = answer else {
-        return Found::Nothing;
-    };
-    let answer = r.lon;
-    let Taken::Bits(lon, _) = answer else {
-        return Found::Nothing;
-    };
-    let answer = r.west;
-    let Taken::Bits(west, _) = answer else {
-        return Found::Nothing;
-    };
-    let answer = r.symbol;
-    let Taken::Bits(symbol, next) = answer else {
-        return Found::Nothing;
-    };
-    Found::At(Place {
-        lat,
-        north,
-        listed,
-        table,
-        lon,
-        west,
-        symbol,
-        next,
-    })
-}
-
-// The position that stands from a bit on.
-pub fn place_at(s: &[u8], at: usize) -> Found
+// The position that stands from a bit on: latitude, N or S, whether the table is by its place, table, longitude, W or E, symbol.
+pub fn place_at(s: &[u8], at: usize) -> Option<Place>
     requires { length s.now < 2 ^ 60 }
     ensures { Placed (unpack s.now) at result }
 {
-    numbers_of(answers_at(s, at))
+    let mut r = Reader { bytes: s, at };
+    let (lat, _) = r.take(20)?;
+    let (north, _) = r.bit()?;
+    let (listed, _) = r.bit()?;
+    let (table, _) = r.take(width(listed == 1))?;
+    let (lon, _) = r.take(21)?;
+    let (west, _) = r.bit()?;
+    let (symbol, next) = r.take(7)?;
+    Some(Place {
+        lat,
+        north: north == 1,
+        listed: listed == 1,
+        table,
+        lon,
+        west: west == 1,
+        symbol,
+        next,
+    })
 }

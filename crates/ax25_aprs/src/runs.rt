@@ -6,6 +6,7 @@ ghost use Rattle.ax25_aprs.specs.Openings.{may_stop};
 use crate::words;
 
 // A run may stop at x with y after it.
+#[tactic(auto, unfolding(crate::specs::Openings::may_stop))]
 fn may_stop(x: u8, y: u8) -> bool
     ensures { result ≡ may_stop x y }
 {
@@ -19,10 +20,8 @@ fn calm(s: &[u8], i: usize) -> bool
     ensures { result ≡ true → 16 ≤ plain_len (drop i s.now) }
 {
     let mut stop = false;
-    let mut k = 0;
-    while k < 16 {
+    for k in 0..16 {
         stop = stop | may_stop(s[i + k], s[i + k + 1]);
-        k += 1;
     }
     !stop
 }
@@ -32,17 +31,12 @@ fn plain_to(s: &[u8], from: usize, end: usize) -> usize
     requires { (from ≤ end) × (end ≤ length s.now) }
     ensures { result ≡ min (from + plain_len (drop from s.now)) end }
 {
-    let mut i = from;
-    while i < end {
-        if 0x80 <= s[i] {
+    for i in from..end {
+        if 0x80 <= s[i] || words::word_from(s, i).is_some() {
             return i;
         }
-        if words::word_from(s, i) != 0 {
-            return i;
-        }
-        i += 1;
     }
-    i
+    end
 }
 
 // The same for the 16 bytes from place i on, at once where they are calm.
@@ -51,9 +45,10 @@ fn plain_block(s: &[u8], i: usize) -> usize
     ensures { result ≡ min (i + plain_len (drop i s.now)) (i + 16) }
 {
     if calm(s, i) {
-        return i + 16;
+        i + 16
+    } else {
+        plain_to(s, i, i + 16)
     }
-    plain_to(s, i, i + 16)
 }
 
 // How many bytes at the front are plain.

@@ -8,113 +8,85 @@ ghost use Rattle.ax25_aprs.specs.Runs.{part_bits, part_size};
 ghost use Rattle.bits.specs.Read.{numbers};
 ghost use Rattle.ax25_aprs.specs.Put.{Stepped, Does};
 ghost use Rattle.ax25_aprs.specs.Selves.{Selves};
-ghost use Rattle.ax25_aprs.specs.Words.{word_at};
+ghost use Rattle.ax25_aprs.specs.Words.{Spells};
 
-use crate::height::Number;
-use crate::part::Part;
 use crate::{field, height, number, runs, words};
-
-// What coding the front of a text gave: how many bytes it took, and the next position; or an altitude is no number.
-#[derive(Clone, Copy)]
-pub enum Step {
-    Took(usize, usize),
-    Stuck,
-}
+use refusals::Refusal;
 
 // An altitude: in a position type, the first word with four more bytes.
 fn is_altitude(position: bool, n: usize, len: usize) -> bool
     ensures { result ≡ position && (eqb n 1 && leb 9 len) }
 {
-    if !position {
-        return false;
-    }
-    if n != 1 {
-        return false;
-    }
-    9 <= len
+    position && n == 1 && 9 <= len
 }
 
-// The first word, and the number behind it in 14 bits.
-fn with_altitude(s: &[u8], out: &mut [u8], at: usize) -> Step
+// The first word, and the number after it in 14 bits: how many bytes that took, and the next position. None where the altitude is no number.
+fn with_altitude(s: &[u8], out: &mut [u8], at: usize) -> Option<(usize, usize)>
     requires { (9 ≤ length s.now) × (at < 2 ^ 61) }
     ensures { Stepped (altitude_bits (altitude (take 4 (drop 5 s.now)))) 9 (unpack out.old) at (unpack out.new) result }
 {
-    let Number::Is(a) = height::read(&s[5..9]) else {
-        return Step::Stuck;
-    };
+    let a = height::read(&s[5..9])?;
     let next = bits_write::push(out, at, 1, 7);
-    Step::Took(9, bits_write::push_bfi(out, next, a, 14))
+    Some((9, bits_write::push_bfi(out, next, a, 14)))
 }
 
-// What stands at the front: an altitude, word n or, where n is 0, a byte.
-fn front_as(s: &[u8], n: usize, position: bool, out: &mut [u8], at: usize) -> Step
-    requires { (n ≡ word_at s.now) × (0 < length s.now) × (at < 2 ^ 61) }
+// What stands at the front: an altitude, a word or, where there is none, a byte.
+fn front(
+    s: &[u8],
+    word: Option<usize>,
+    position: bool,
+    out: &mut [u8],
+    at: usize,
+) -> Option<(usize, usize)>
+    requires { Spells s.now word × (0 < length s.now) × (at < 2 ^ 61) }
     ensures { Stepped (front_bits position s.now) (front_size position s.now) (unpack out.old) at (unpack out.new) result }
 {
-    if n == 0 {
-        return Step::Took(1, bits_write::push_bfi(out, at, field::wide(s[0]), 7));
-    }
+    let Some(n) = word else {
+        return Some((1, bits_write::push_bfi(out, at, u64::from(s[0]), 7)));
+    };
     if is_altitude(position, n, s.len()) {
         return with_altitude(s, out, at);
     }
-    Step::Took(words::size_of(n), bits_write::push(out, at, n as u64, 7))
-}
-
-// What stands at the front: an altitude, a word or a byte.
-fn front(s: &[u8], position: bool, out: &mut [u8], at: usize) -> Step
-    requires { (0 < length s.now) × (at < 2 ^ 61) }
-    ensures { Stepped (front_bits position s.now) (front_size position s.now) (unpack out.old) at (unpack out.new) result }
-{
-    front_as(s, words::word_at(s), position, out, at)
+    Some((words::word(n).len(), bits_write::push(out, at, n as u64, 7)))
 }
 
 // What stands at the front or, where that is a plain byte, all the plain bytes there at once.
-fn part(s: &[u8], position: bool, out: &mut [u8], at: usize) -> Step
+fn part(s: &[u8], position: bool, out: &mut [u8], at: usize) -> Option<(usize, usize)>
     requires { (0 < length s.now) × (at + length s.now * 7 < 2 ^ 61) }
     ensures { Stepped (part_bits position s.now) (part_size position s.now) (unpack out.old) at (unpack out.new) result }
 {
-    let n = words::word_at(s);
-    if n != 0 {
-        return front(s, position, out, at);
-    }
-    if 0x80 <= s[0] {
-        return front_as(s, n, position, out, at);
+    let word = words::word_at(s);
+    if word.is_some() || 0x80 <= s[0] {
+        return front(s, word, position, out, at);
     }
     let size = runs::plain(s);
-    Step::Took(size, bits_write::push_sevens(out, at, &s[0..size]))
+    Some((size, bits_write::push_sevens(out, at, &s[0..size])))
 }
 
 // A text from a position on; where an altitude is no number nothing is said of the output.
-pub fn text_encode(s: &[u8], position: bool, out: &mut [u8], at: usize) -> Part
+pub fn text_encode(s: &[u8], position: bool, out: &mut [u8], at: usize) -> Result<usize, Refusal>
     requires { at + length s.now * 7 < 2 ^ 61 }
     ensures { Does (or_refused 5 (text_bits position s.now)) (unpack out.old) at (unpack out.new) result }
 {
     let mut i = 0;
     let mut next = at;
     while i < s.len() {
-        let Step::Took(size, place) = part(&s[i..], position, out, next) else {
-            return Part::Refused(refusals::FORMAT);
-        };
+        let (size, place) = part(&s[i..], position, out, next).ok_or(Refusal::Format)?;
         i += size;
         next = place;
     }
-    Part::Next(next)
+    Ok(next)
 }
 
-// How many bits a code takes behind it.
+// How many bits a code takes after it.
+#[tactic(auto, unfolding(crate::specs::Text::code_span, laws::specs::Pick::pick))]
 fn span(position: bool, code: u64) -> usize
     ensures { result ≡ code_span position code }
 {
-    if !position {
-        return 0;
-    }
-    if code != 1 {
-        return 0;
-    }
-    14
+    if position && code == 1 { 14 } else { 0 }
 }
 
-// In a position type the number behind the first word. The next place.
+// In a position type the number after the first word. The next place.
 fn put_altitude(s: &[u8], at: usize, position: bool, out: &mut [u8], to: usize) -> usize
     requires { (length s.now < 2 ^ 56) × (to < 2 ^ 61) }
     ensures { Wrote out.old to (altitude_text position (drop at (unpack s.now))) out.new result }
@@ -122,25 +94,23 @@ fn put_altitude(s: &[u8], at: usize, position: bool, out: &mut [u8], to: usize) 
     if !position {
         return to;
     }
-    let n = bits_write::least(14, bits::reader::remaining_at(s, at));
+    let n = bits::reader::remaining_at(s, at).min(14);
     number::put_padded(out, to, 4, field::value(s, at, n))
 }
 
-// What a code of seven bits stands for, by its range, with the bits behind it. The next place.
+// What a code of seven bits stands for, by its range, with the bits after it. The next place.
 fn put_code(s: &[u8], at: usize, position: bool, code: u64, out: &mut [u8], to: usize) -> usize
     requires { (length s.now < 2 ^ 56) × (code < 128) × (to < 2 ^ 60) }
     ensures { Wrote out.old to (code_text position code (drop at (unpack s.now))) out.new result }
 {
     match code {
-        0 => to,
+        0 | 10..=31 => to,
         1 => {
             let next = words::put_word(out, to, 1);
             put_altitude(s, at, position, out, next)
         }
         2..=9 => words::put_word(out, to, code as usize),
-        10..=31 => to,
-        32..=127 => bits_write::byte(out, to, code as u8),
-        _ => to,
+        _ => bits_write::byte(out, to, code as u8),
     }
 }
 
@@ -160,10 +130,7 @@ fn selves(s: &[u8], at: usize) -> usize
 {
     let mut n = 0;
     let mut i = at;
-    while i / 8 + 8 <= s.len() {
-        if !all_selves(bits::read::block(s, i)) {
-            return n;
-        }
+    while i / 8 + 8 <= s.len() && all_selves(bits::read::block(s, i)) {
         n += 8;
         i += 56;
     }
@@ -192,13 +159,11 @@ pub fn text_decode(s: &[u8], at: usize, position: bool, out: &mut [u8], to: usiz
         let n = put_selves(s, i, out, next);
         i += n * 7;
         next += n;
-        if bits::reader::remaining_at(s, i) < 7 {
+        let Some((code, after)) = bits::reader::take_at(s, i, 7) else {
             return next;
-        }
-        let code = field::value(s, i, 7);
-        let behind = i + 7;
-        next = put_code(s, behind, position, code, out, next);
-        i = behind + span(position, code);
+        };
+        next = put_code(s, after, position, code, out, next);
+        i = after + span(position, code);
     }
     next
 }

@@ -1,94 +1,52 @@
 // DICTIONARY, the words of position text and messages.
-ghost use Rattle.std.specs.Prelude.{◌≡◌, ◌^◌, ◌≤◌, ◌<◌, length, get_or, drop};
+ghost use Rattle.std.specs.Prelude.{◌≡◌, ◌^◌, ◌≤◌, ◌<◌, length, drop};
 ghost use Rattle.laws.specs.Pick.{pick};
 ghost use Rattle.laws.specs.Text.{starts};
 ghost use Rattle.laws.specs.Wrote.{Wrote};
-ghost use Rattle.ax25_aprs.specs.Words.{word, word_letters, word_at};
+ghost use Rattle.ax25_aprs.specs.Words.{word, Spells};
 ghost use Rattle.ax25_aprs.specs.Openings.{first_letter, second_letter, may_open, has_mark};
-
-use ax25_token::encode::starts;
-
-// Eight letters a word, with zeros after it.
-const DICTIONARY: [u8; 72] =
-    *b"/A=00\0\0\0VARA\0\0\0\0PinPointHF \0\0\0\0\0ack\0\0\0\0\0APRS\0\0\0\0ping{\0\0\0Digi\0\0\0\0Gate\0\0\0\0";
 
 // The marks of the words' first letters and of their second letters: bit k is set for a letter whose low six bits are k.
 const FIRSTS: u64 = 0x0001_8002_0041_0192;
 
 const SECONDS: u64 = 0x0000_020A_0001_0042;
 
-// Letter j of word n.
-pub fn letter(n: usize, j: usize) -> u8
-    requires { (1 ≤ n) × (n ≤ 9) × (j < 8) }
-    ensures { result ≡ get_or (word n) j 0 }
-{
-    letter_in(&DICTIONARY, n, j)
-}
-
-// The same from the table that is lent: each use of a constant would copy it.
-fn letter_in(letters: &[u8; 72], n: usize, j: usize) -> u8
-    requires { (letters.now ≡ word_letters) × (1 ≤ n) × (n ≤ 9) × (j < 8) }
-    ensures { result ≡ get_or (word n) j 0 }
-{
-    letters[(n - 1) * 8 + j]
-}
-
-// How many letters word n has.
-pub fn size_of(n: usize) -> usize
+// The word of a code: DICTIONARY of the source.
+#[tactic(auto, unfolding(crate::specs::Words::word, crate::specs::Words::words))]
+pub fn word(n: usize) -> &'static [u8]
     requires { (1 ≤ n) × (n ≤ 9) }
-    ensures { result ≡ length (word n) }
+    ensures { result.now ≡ word n }
 {
     match n {
-        1 => 5,
-        2 => 4,
-        3 => 8,
-        4 => 3,
-        5 => 3,
-        6 => 4,
-        7 => 5,
-        8 => 4,
-        _ => 4,
+        1 => b"/A=00",
+        2 => b"VARA",
+        3 => b"PinPoint",
+        4 => b"HF ",
+        5 => b"ack",
+        6 => b"APRS",
+        7 => b"ping{",
+        8 => b"Digi",
+        _ => b"Gate",
     }
 }
 
-// s starts with word n. Where n is known the compiler compares with that word alone.
-fn starts_with(s: &[u8], n: usize) -> bool
+// n where s starts with word n. Where n is known the compiler compares with that word alone.
+fn word_if(s: &[u8], n: usize) -> Option<usize>
     requires { (1 ≤ n) × (n ≤ 9) }
-    ensures { result ≡ starts (word n) s.now }
+    ensures { result ≡ pick (starts (word n) s.now) (Some n) None }
 {
-    match n {
-        1 => starts(s, b"/A=00"),
-        2 => starts(s, b"VARA"),
-        3 => starts(s, b"PinPoint"),
-        4 => starts(s, b"HF "),
-        5 => starts(s, b"ack"),
-        6 => starts(s, b"APRS"),
-        7 => starts(s, b"ping{"),
-        8 => starts(s, b"Digi"),
-        _ => starts(s, b"Gate"),
+    if s.starts_with(word(n)) {
+        Some(n)
+    } else {
+        None
     }
 }
 
-// n where s starts with word n, or 0.
-fn word_if(s: &[u8], n: usize) -> usize
-    requires { (1 ≤ n) × (n ≤ 9) }
-    ensures { result ≡ pick (starts (word n) s.now) n 0 }
+// The first word that s starts with. No two words start with the same letter, so one comparison decides.
+pub fn word_at(s: &[u8]) -> Option<usize>
+    ensures { Spells s.now result }
 {
-    if starts_with(s, n) {
-        return n;
-    }
-    0
-}
-
-// The first word that s starts with, or 0. No two words start with the same letter, so one comparison decides.
-pub fn word_at(s: &[u8]) -> usize
-    ensures { result ≡ word_at s.now }
-{
-    if s.len() == 0 {
-        return 0;
-    }
-    let x = s[0];
-    match x {
+    match s.first()? {
         b'/' => word_if(s, 1),
         b'V' => word_if(s, 2),
         b'P' => word_if(s, 3),
@@ -98,11 +56,12 @@ pub fn word_at(s: &[u8]) -> usize
         b'p' => word_if(s, 7),
         b'D' => word_if(s, 8),
         b'G' => word_if(s, 9),
-        _ => 0,
+        _ => None,
     }
 }
 
 // x is the first letter of some word. There is no branch, so that the compiler tests many bytes at once.
+#[tactic(auto, unfolding(crate::specs::Openings::first_letter))]
 fn is_first(x: u8) -> bool
     ensures { result ≡ first_letter x }
 {
@@ -118,6 +77,7 @@ fn is_first(x: u8) -> bool
 }
 
 // x is the second letter of some word.
+#[tactic(auto, unfolding(crate::specs::Openings::second_letter))]
 fn is_second(x: u8) -> bool
     ensures { result ≡ second_letter x }
 {
@@ -125,6 +85,7 @@ fn is_second(x: u8) -> bool
 }
 
 // A word may start with x and y: x is the first letter of some word, and y the second letter of some word.
+#[tactic(auto, unfolding(crate::specs::Openings::may_open))]
 pub fn may_open(x: u8, y: u8) -> bool
     ensures { result ≡ may_open x y }
 {
@@ -132,24 +93,25 @@ pub fn may_open(x: u8, y: u8) -> bool
 }
 
 // x has a mark in m: the bit of its low six bits is set.
+#[tactic(auto, unfolding(crate::specs::Openings::has_mark))]
 fn has_mark(m: u64, x: u8) -> bool
     ensures { result ≡ has_mark m x }
 {
     (m >> (x % 64)) % 2 == 1
 }
 
-// The first word that s has from place i on, or 0. At most places the marks of two bytes tell that there is none.
-pub fn word_from(s: &[u8], i: usize) -> usize
+// The first word that s has from place i on. At most places the marks of two bytes tell that there is none.
+pub fn word_from(s: &[u8], i: usize) -> Option<usize>
     requires { i < length s.now }
-    ensures { result ≡ word_at (drop i s.now) }
+    ensures { Spells (drop i s.now) result }
 {
     if s.len() <= i + 1 {
-        return 0;
+        return None;
     }
     if has_mark(FIRSTS, s[i]) & has_mark(SECONDS, s[i + 1]) {
         return word_at(&s[i..]);
     }
-    0
+    None
 }
 
 // Word n at a place. The next place.
@@ -157,13 +119,5 @@ pub fn put_word(out: &mut [u8], at: usize, n: usize) -> usize
     requires { (1 ≤ n) × (n ≤ 9) × (at < 2 ^ 61) }
     ensures { Wrote out.old at (word n) out.new result }
 {
-    let letters = &DICTIONARY;
-    let size = size_of(n);
-    let mut next = at;
-    let mut j = 0;
-    while j < size {
-        next = bits_write::byte(out, next, letter_in(letters, n, j));
-        j += 1;
-    }
-    next
+    bits_write::copy(out, at, word(n))
 }

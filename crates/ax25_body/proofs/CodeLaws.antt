@@ -13,7 +13,7 @@ use borrow.Author.Tests.{ne_eqb}
 use Rattle.laws.specs.Pick.{pick}
 use Rattle.laws.proofs.Cases.{by_le}
 use Rattle.laws.proofs.ListLaws.{from_place}
-use Rattle.refusals.specs.Outcome.{Outcome, number}
+use Rattle.refusals.specs.Outcome.{Outcome, refused, outcome_of}
 use Rattle.ax25_token.specs.Token.{token_bits}
 use Rattle.ax25_token.proofs.PutLaws.{Gave}
 use Rattle.ax25_address.specs.declared.classify.AprsType.{AprsType}
@@ -34,11 +34,9 @@ use Rattle.ax25_body.proofs.BodyLaws.{Others, other_number}
 
 -- ---- parts of a slice that may be shorter
 
--- `&s[0..n]`, where n is k or the length
-pub front_min : {A : Type 0} (s : List A) (k n : ℕ) → n ≡ min k (length s) → take (n - 0) s ≡ take k s
-front_min s k n e =
-    let f : n - 0 ≡ min k (length s) = omega (arith, e) in
-    ap (λ (m : ℕ). take m s) f ∙ take_min k s
+-- `&s[..n]`, where n is k or the length
+pub front_min : {A : Type 0} (s : List A) (k n : ℕ) → n ≡ min k (length s) → take n s ≡ take k s
+front_min s k n e = ap (λ (m : ℕ). take m s) e ∙ take_min k s
 
 -- `&s[n..]`
 pub rest_min : {A : Type 0} (s : List A) (k n : ℕ) → n ≡ min k (length s) → take (length s - n) (drop n s) ≡ drop k s
@@ -54,8 +52,8 @@ module _ (k : ℕ) (o : Option (List Bool)) (q : Outcome (List Bool)) (b : List 
   pub does_gave : (c : List Bool) (p : ℕ) (r : Result ℕ Refusal) → Gave o b at c p → Does q c p d r → Does (or_refused k o then q) b at d r
   does_gave c p r g h = rw g.is (does_then g.wrote q d r h)
 
-  pub does_bad : (x : Refusal) → number x ≡ k → o ≡ None → Does (or_refused k o then q) b at d (Err x)
-  does_bad x n e = rw (e, n)
+  pub does_bad : (r : Result ℕ Refusal) → outcome_of r ≡ refused k → o ≡ None → Does (or_refused k o then q) b at d r
+  does_bad r h e = rw e h
 
 -- a call from at most ten bytes takes at most 64 bits
 pub gave_near : (l : ℕ) → 2 ≤ l → l ≤ 7 → (s : List ℕ) → length s ≤ 10 → (b : List Bool) (at : ℕ) (c : List Bool) (p : ℕ)

@@ -1,6 +1,8 @@
 -- The ways through the coder of third-party bodies.
 -- Assumes nothing.
 use Rattle.std.proofs.Common.{Option, Some, Result, Ok, Err}
+use Rattle.std.specs.Result.{IsErrAnd}
+use Rattle.std.proofs.lemmas.Result.{err_from_is_err_and}
 use Rattle.refusals.specs.declared.Refusal.{Refusal}
 use Rattle.refusals.specs.declared.Refusal.TheVariants as refusal
 use mathlib.Core.Path.{◌≡◌, refl, sym, ap, subst, ◌∙◌}
@@ -29,10 +31,6 @@ use Rattle.ax25_aprs.proofs.PartLaws.{does_then}
 use Rattle.ax25_aprs.proofs.Sizes.{part_most}
 use Rattle.ax25_body.specs.Read.{after_type, inner_number, second_bits}
 use Rattle.ax25_body.specs.Pass.{Coded, Uncoded, Codes}
-
--- `&d[0..n]`
-pub front_of : (n : ℕ) (d : List ℕ) → take (n - 0) d ≡ take n d
-front_of n d = let e : n - 0 ≡ n = omega arith in ap (λ (m : ℕ). take m d) e
 
 -- ---- what `collect` found
 
@@ -97,6 +95,12 @@ module _ (l : ℕ) (f : Field) (d : List ℕ) (b : List Bool) (at : ℕ) (c : Li
   pub uncoded : (r : Result (ℕ × ℕ) Refusal) (e : Refusal) → r ≡ Err e → Codes l f d b at c r → Uncoded l f (number e)
   unfolding Codes
   uncoded r n e h = subst (λ (t : Result (ℕ × ℕ) Refusal). Codes l f d b at c t) e h
+
+  -- what the exit of a `?` passes on
+  pub codes_exit : (x : Refusal) (r : Result (ℕ × ℕ) Refusal) → IsErrAnd r (λ y. y ≡ x) → Codes l f d b at c (Err x) → Codes l f d b at c r
+  codes_exit x r h k =
+      let p = err_from_is_err_and r h in
+      rw (p.1, p.2) k
 
   pub codes_short : f ≡ short → Codes l f d b at c (Err refusal.Short)
   unfolding Codes call_field last_field

@@ -39,7 +39,13 @@ pub fn message_encode(s: &[u8], l: usize, out: &mut [u8], at: usize) -> Result<u
 }
 
 // A body of a type from its first byte on. The type byte, which only a Text has not, is dropped here.
-pub fn aprs_encode(typ: AprsType, s: &[u8], l: usize, out: &mut [u8], at: usize) -> Result<usize, Refusal>
+pub fn aprs_encode(
+    typ: AprsType,
+    s: &[u8],
+    l: usize,
+    out: &mut [u8],
+    at: usize,
+) -> Result<usize, Refusal>
     requires { (0 < length s.now) × (length s.now < 2 ^ 56) × (at < 2 ^ 59) × (2 ≤ l) × (l ≤ 7) }
     ensures { Does (body_bits (type_number typ) l (after_type (type_number typ) s.now)) (unpack out.old) at (unpack out.new) result }
 {
@@ -74,7 +80,14 @@ fn put_filled(c: Call, out: &mut [u8], to: usize) -> usize
 }
 
 // The message that stands from a bit on, with its type byte; where there is none, nothing is said of the output.
-pub fn message_decode(s: &[u8], at: usize, l: usize, out: &mut [u8], to: usize, mended: bool) -> Option<usize>
+pub fn message_decode(
+    s: &[u8],
+    at: usize,
+    l: usize,
+    out: &mut [u8],
+    to: usize,
+    mended: bool,
+) -> Option<usize>
     requires { (length s.now < 2 ^ 55) × (to < 2 ^ 54) × (2 ≤ l) × (l ≤ 7) }
     ensures { Reads (read_message mended l (drop at (unpack s.now))) out.old to out.new result }
 {

@@ -15,7 +15,13 @@ use bits_write::least;
 use refusals::Refusal;
 
 // The token of the call at the front of d, up to a stop byte among its first ten.
-fn call_encode(d: &[u8], stop: u8, l: usize, out: &mut [u8], at: usize) -> Result<(usize, usize), Refusal>
+fn call_encode(
+    d: &[u8],
+    stop: u8,
+    l: usize,
+    out: &mut [u8],
+    at: usize,
+) -> Result<(usize, usize), Refusal>
     requires { (at < 2 ^ 60) × (2 ≤ l) × (l ≤ 7) }
     ensures { Codes l (collect_of stop 10 d.now) d.now (unpack out.old) at (unpack out.new) result }
 {
@@ -137,7 +143,14 @@ fn inner_type(k: u64) -> AprsType
 }
 
 // The end of the head, and the inner body that stands from a bit on behind its type in two bits.
-fn inner_decode(s: &[u8], at: usize, l: usize, out: &mut [u8], to: usize, mended: bool) -> Option<usize>
+fn inner_decode(
+    s: &[u8],
+    at: usize,
+    l: usize,
+    out: &mut [u8],
+    to: usize,
+    mended: bool,
+) -> Option<usize>
     requires { (length s.now < 2 ^ 55) × (to < 2 ^ 53) × (2 ≤ l) × (l ≤ 7) }
     ensures { Reads (read_inner mended l (drop at (unpack s.now))) out.old to out.new result }
 {
@@ -147,7 +160,14 @@ fn inner_decode(s: &[u8], at: usize, l: usize, out: &mut [u8], to: usize, mended
 }
 
 // The third-party body that stands from a bit on; where there is none, nothing is said of the output.
-pub fn third_decode(s: &[u8], at: usize, l: usize, out: &mut [u8], to: usize, mended: bool) -> Option<usize>
+pub fn third_decode(
+    s: &[u8],
+    at: usize,
+    l: usize,
+    out: &mut [u8],
+    to: usize,
+    mended: bool,
+) -> Option<usize>
     requires { (length s.now < 2 ^ 55) × (to < 2 ^ 52) × (2 ≤ l) × (l ≤ 7) }
     ensures { Reads (read_third mended l (drop at (unpack s.now))) out.old to out.new result }
 {

@@ -23,8 +23,7 @@ use Rattle.bits.specs.Read.{take_bits}
 use Rattle.bits.proofs.ReadLaws.{take_yes, take_no}
 use Rattle.ax25_token.specs.Call.{text_of, call_of, texts}
 use Rattle.ax25_token.specs.Token.{base_of, read_token}
-use Rattle.ax25_token.specs.declared.Decoded.{Decoded}
-use Rattle.ax25_token.specs.declared.Token.TheVariants as token
+use Rattle.ax25_token.specs.declared.Call.{Call}
 use Rattle.ax25_token.proofs.CallLaws.{token_next, token_nothing}
 use Rattle.ax25_address.specs.Address.{call_bytes}
 use Rattle.ax25_address.specs.Parse.{aliases, alias_calls}
@@ -81,22 +80,22 @@ module _ (l : ℕ) (h last : Bool) where
   unfolding field_of marked
   field_put c m em w = wrote_as (ap (λ (x : ℕ). set (call_bytes l c) l (bit_or (get_or (call_bytes l c) l 0) x)) em) w
 
-  module _ (b : List Bool) (o : Option (List ℕ × List Bool)) (r : Decoded) (told : texts (call_of b r) ≡ o) where
-    pub address_next : (p : ℕ) → r.token ≡ token.Next p → (m : ℕ) → m ≡ pick h 0x80 0 + pick last 0x01 0 → {out e : List ℕ} {to q : ℕ}
-        → Wrote out to (set (call_bytes l (text_of r.call)) l (bit_or (get_or (call_bytes l (text_of r.call)) l 0) m)) e q
+  module _ (b : List Bool) (o : Option (List ℕ × List Bool)) (r : Option (Call × ℕ)) (told : texts (call_of b r) ≡ o) where
+    pub address_next : (c : Call) (p : ℕ) → r ≡ Some (c, p) → (m : ℕ) → m ≡ pick h 0x80 0 + pick last 0x01 0 → {out e : List ℕ} {to q : ℕ}
+        → Wrote out to (set (call_bytes l (text_of c)) l (bit_or (get_or (call_bytes l (text_of c)) l 0) m)) e q
         → Took (field_of l h last) b o out to e p q
-    address_next p u m em w = record { value = text_of r.call; is = token_next b o r told p u; wrote = field_put (text_of r.call) m em w }
+    address_next c p u m em w = record { value = text_of c; is = token_next b o r told c p u; wrote = field_put (text_of c) m em w }
 
 -- ---- a call that starts with AP
 
-module _ (b : List Bool) (o : Option (List ℕ × List Bool)) (r : Decoded) (told : texts (call_of b r) ≡ o) where
-  pub ap_none : r.token ≡ token.Nothing → false ≡ ap_in o
+module _ (b : List Bool) (o : Option (List ℕ × List Bool)) (r : Option (Call × ℕ)) (told : texts (call_of b r) ≡ o) where
+  pub ap_none : r ≡ None → false ≡ ap_in o
   unfolding ap_in
   ap_none u = rw (token_nothing b o r told u)
 
-  pub ap_some : (p : ℕ) → r.token ≡ token.Next p → starts (ascii "AP") (text_of r.call) ≡ ap_in o
+  pub ap_some : (c : Call) (p : ℕ) → r ≡ Some (c, p) → starts (ascii "AP") (text_of c) ≡ ap_in o
   unfolding ap_in
-  ap_some p u = rw (token_next b o r told p u)
+  ap_some c p u = rw (token_next b o r told c p u)
 
 -- ---- destination and source
 

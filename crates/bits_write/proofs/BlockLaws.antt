@@ -7,12 +7,12 @@ use Prim.Native.Nat.{ℕ, zero, suc, ◌+◌, ◌-◌, ◌*◌, ◌/◌, ◌%◌
 use native.Mathlib.Nat.{zero-add, suc-add, add_comm, lt_of_lt_of_le}
 use native.Mathlib.Omega.{arith}
 use lib.ListN.{length, get_or, set, take, drop, take-append-drop}
-use lib.Seq.{sets, take-suc, take-length, take-nil, drop-drop, drop-cons, length-take-le, set-get_or}
+use lib.Seq.{sets, take-length, take-nil, drop-drop, drop-cons, length-take-le, set-get_or}
 use lib.Pow.{pow_mono, shr_lt}
 use Rattle.laws.specs.Bits.{bits_of, unpack}
 use Rattle.laws.specs.Wrote.{Wrote}
 use Rattle.laws.proofs.BitLaws.{length_bits, bits_append, bits_join, bits_mod}
-use Rattle.laws.proofs.ByteLaws.{put_unpack, unpack_append, unpack_drop}
+use Rattle.laws.proofs.ByteLaws.{put_unpack, unpack_drop}
 use Rattle.laws.proofs.ListLaws.{sets_append, sets_over, from_place}
 use Rattle.laws.proofs.WroteLaws.{wrote_then, wrote_as}
 use Rattle.bits_write.specs.Text7.{sevens}
@@ -52,11 +52,6 @@ sevens_join s k m n a {b} e f h =
     rw (bits_join (m * 7) (n * 7) a h, e, f, ← drop-drop m k s, sevens_add m n (drop k s))
 
 -- ---- whole bytes
-
--- one byte more
-pub bytes_take_suc : (s : List ℕ) (i : ℕ) → i < length s → unpack (take (suc i) s) ≡ unpack (take i s) ++ bits_of 8 (get_or s i 0)
-unfolding unpack
-bytes_take_suc s i h = rw (take-suc s i 0 h, unpack_append) (ap (λ (l : List Bool). unpack (take i s) ++ l) (append-nil (bits_of 8 (get_or s i 0))))
 
 -- the first k bytes, and then the others
 pub bytes_parts : (s : List ℕ) (k : ℕ) → take (k * 8) (unpack s) ++ unpack (take (length s - k) (drop k s)) ≡ unpack s

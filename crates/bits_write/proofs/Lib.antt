@@ -1,4 +1,5 @@
 pub mod BlockLaws
+pub mod CopyLaws
 pub mod Text7Laws
 pub mod WordLaws
 pub mod WriteLaws

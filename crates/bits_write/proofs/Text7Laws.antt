@@ -1,37 +1,55 @@
 -- Text of seven bits a byte: its steps, and its pad.
 -- Assumes nothing.
-use mathlib.Core.Path.{◌≡◌, refl, ap}
+use mathlib.Core.Path.{◌≡◌, refl, sym, ap, ◌∙◌}
 use mathlib.Core.Bool.{Bool, not}
 use mathlib.Core.List.{List, [], ◌∷◌, ◌++◌, append_assoc, append-nil}
 use Prim.Native.Nat.{ℕ, suc, ◌+◌, ◌-◌, ◌*◌, ◌%◌, ◌<◌}
 use native.Mathlib.Omega.{arith}
-use lib.ListN.{length, get_or, take, replicate, length-append, length-replicate}
+use lib.ListN.{length, get_or, take, drop, take-append-drop, replicate, length-append, length-replicate}
 use lib.Seq.{take-suc, take_all}
 use Rattle.laws.specs.Bits.{odd, bits_of}
 use Rattle.laws.specs.Wrote.{Wrote}
 use Rattle.laws.proofs.BitLaws.{length_bits}
 use Rattle.laws.proofs.WroteLaws.{wrote_then, wrote_as}
-use Rattle.bits_write.specs.Text7.{sevens, last_or, text7_bits}
+use Rattle.bits_write.specs.Text7.{bits_each, sevens, last_or, text7_bits}
+
+-- ---- some bits of each byte
+
+pub length_each : (n : ℕ) (cs : List ℕ) → length (bits_each n cs) ≡ length cs * n
+unfolding bits_each
+length_each n [] = omega arith
+length_each n (c ∷ cs) = rw (length-append, length_bits, length_each n cs) (omega arith)
+
+each_append : (n : ℕ) (a b : List ℕ) → bits_each n (a ++ b) ≡ bits_each n a ++ bits_each n b
+unfolding bits_each
+each_append n [] b = refl
+each_append n (c ∷ a) b = rw (each_append n a b, append_assoc)
+
+each_one : (n c : ℕ) → bits_each n (c ∷ []) ≡ bits_of n c
+unfolding bits_each
+each_one n c = append-nil (bits_of n c)
+
+-- one more byte
+pub each_take_suc : (n : ℕ) (s : List ℕ) (i : ℕ) → i < length s → bits_each n (take (suc i) s) ≡ bits_each n (take i s) ++ bits_of n (get_or s i 0)
+each_take_suc n s i h =
+    ap (bits_each n) (take-suc s i 0 h)
+    ∙ each_append n (take i s) (get_or s i 0 ∷ [])
+    ∙ ap (λ (l : List Bool). bits_each n (take i s) ++ l) (each_one n (get_or s i 0))
+
+-- the first i bytes, and then the others
+pub each_rest : (n : ℕ) (s : List ℕ) (i : ℕ) → bits_each n (take i s) ++ bits_each n (drop i s) ≡ bits_each n s
+each_rest n s i = sym (each_append n (take i s) (drop i s)) ∙ ap (bits_each n) (take-append-drop i s)
 
 -- ---- sevens
 
 pub length_sevens : (cs : List ℕ) → length (sevens cs) ≡ length cs * 7
-unfolding sevens
-length_sevens [] = refl
-length_sevens (c ∷ cs) = rw (length-append, length_bits, length_sevens cs) (omega arith)
-
-sevens_append : (a b : List ℕ) → sevens (a ++ b) ≡ sevens a ++ sevens b
-unfolding sevens
-sevens_append [] b = refl
-sevens_append (c ∷ a) b = rw (sevens_append a b, append_assoc)
-
-sevens_one : (c : ℕ) → sevens (c ∷ []) ≡ bits_of 7 c
-unfolding sevens
-sevens_one c = append-nil (bits_of 7 c)
+unfolding sevens bits_each
+length_sevens cs = length_each 7 cs
 
 -- one more byte of a text
 pub sevens_take_suc : (s : List ℕ) (i : ℕ) → i < length s → sevens (take (suc i) s) ≡ sevens (take i s) ++ bits_of 7 (get_or s i 0)
-sevens_take_suc s i h = rw (take-suc s i 0 h, sevens_append) (ap (λ (l : List Bool). sevens (take i s) ++ l) (sevens_one (get_or s i 0)))
+unfolding sevens bits_each
+sevens_take_suc s i h = each_take_suc 7 s i h
 
 -- ---- the last bit
 

@@ -7,6 +7,11 @@ use Rattle.laws.specs.Bits.{bits_of}
 abbrev pub Sevens : List ℕ → Type 0
 Sevens s = (i : ℕ) → i < length s → get_or s i 0 < 128
 
+-- the low n bits of each byte
+unfoldable pub bits_each : ℕ → List ℕ → List Bool
+bits_each n [] = []
+bits_each n (c ∷ cs) = bits_of n c ++ bits_each n cs
+
 -- "7 bits a byte"
 unfoldable pub sevens : List ℕ → List Bool
 sevens [] = []

@@ -8,20 +8,19 @@ ghost use Rattle.std.proofs.lemmas.List.Edits.{sets};
 ghost use Rattle.laws.specs.Bits.{bits_of, unpack};
 ghost use Rattle.laws.specs.Pick.{pick};
 ghost use Rattle.laws.specs.Wrote.{Wrote};
-ghost use Rattle.bits_write.specs.Text7.{sevens, last_or, text7_bits};
+ghost use Rattle.bits_write.specs.Text7.{bits_each, sevens, last_or, text7_bits};
 ghost use Rattle.bits_write.specs.Write.{width_of, top_bits};
 
-use crate::words::{power, wide, word};
+use crate::words::{power, word};
 
 // A byte at a place. The next place.
 pub fn byte(out: &mut [u8], at: usize, x: u8) -> usize
     requires { at < 2 ^ 62 }
     ensures { Wrote out.old at (x ∷ []) out.new result }
 {
-    if out.len() <= at {
-        return at + 1;
+    if at < out.len() {
+        out[at] = x;
     }
-    out[at] = x;
     at + 1
 }
 
@@ -30,11 +29,7 @@ pub fn copy_all(out: &mut [u8], at: usize, src: &[u8])
     requires { at + length src.now ≤ length out.old }
     ensures { out.new ≡ sets out.old at src.now }
 {
-    let mut i = 0;
-    while i < src.len() {
-        out[at + i] = src[i];
-        i += 1;
-    }
+    out[at..at + src.len()].copy_from_slice(src);
 }
 
 // Bytes from a place on. The next place.
@@ -42,23 +37,18 @@ pub fn copy(out: &mut [u8], at: usize, src: &[u8]) -> usize
     requires { (at < 2 ^ 61) × (length src.now < 2 ^ 60) }
     ensures { Wrote out.old at src.now out.new result }
 {
-    if out.len() <= at {
-        return at + src.len();
+    if at < out.len() {
+        let room = out.len() - at;
+        copy_all(out, at, &src[..src.len().min(room)]);
     }
-    let room = out.len() - at;
-    if room < src.len() {
-        copy_all(out, at, &src[..room]);
-        return at + src.len();
-    }
-    copy_all(out, at, src);
     at + src.len()
 }
 
-// The smaller of two numbers.
+// The smaller of two numbers, for the crates above, whose proofs name it.
 pub fn least(a: usize, b: usize) -> usize
     ensures { result ≡ min a b }
 {
-    if a < b { a } else { b }
+    a.min(b)
 }
 
 // x with the low m bits of v for those in front of its last r.
@@ -66,7 +56,7 @@ fn spliced(x: u8, v: u64, m: usize, r: usize) -> u8
     requires { m + r ≤ 8 }
     ensures { bits_of 8 result ≡ sets (bits_of 8 x) (8 - (m + r)) (bits_of m v) }
 {
-    let w = x as u64;
+    let w = u64::from(x);
     let p = power(m);
     let q = power(r);
     ((w / q / p * p + v % p) * q + w % q) as u8
@@ -78,10 +68,9 @@ fn put_part(out: &mut [u8], at: usize, v: u64, m: usize)
     ensures { unpack out.new ≡ sets (unpack out.old) at (bits_of m v) }
 {
     let i = at / 8;
-    if out.len() <= i {
-        return;
+    if i < out.len() {
+        out[i] = spliced(out[i], v, m, 8 - (at % 8 + m));
     }
-    out[i] = spliced(out[i], v, m, 8 - (at % 8 + m));
 }
 
 // The low n bits of v. The next position.
@@ -96,7 +85,7 @@ pub fn push(out: &mut [u8], at: usize, v: u64, n: usize) -> usize
     let mut pos = at;
     let mut left = n;
     while 0 < left {
-        let m = least(8 - pos % 8, left);
+        let m = left.min(8 - pos % 8);
         left -= m;
         put_part(out, pos, v >> left, m);
         pos += m;
@@ -109,17 +98,14 @@ pub fn bit(out: &mut [u8], at: usize, b: bool) -> usize
     requires { at < 2 ^ 62 }
     ensures { Wrote (unpack out.old) at (b ∷ []) (unpack out.new) result }
 {
-    if b {
-        return push(out, at, 1, 1);
-    }
-    push(out, at, 0, 1)
+    push(out, at, u64::from(b), 1)
 }
 
 // How many bits a number has from its first 1 on.
 fn width(v: u64) -> usize
     ensures { (result ≡ width_of v) × (result ≤ 64) }
 {
-    64 - (u64::leading_zeros(v) as usize)
+    (u64::BITS - v.leading_zeros()) as usize
 }
 
 // The highest n bits of a number wider than n, else its low n bits. The next position.
@@ -128,19 +114,16 @@ pub fn push_bfi(out: &mut [u8], at: usize, v: u64, n: usize) -> usize
     ensures wrote { Wrote (unpack out.old) at (top_bits n v) (unpack out.new) result }
     ensures value { result ≡ at + n }
 {
-    let w = width(v);
-    if n < w {
-        return push(out, at, v >> (w - n), n);
-    }
-    push(out, at, v, n)
+    push(out, at, v >> width(v).saturating_sub(n), n)
 }
 
-// The low seven bits of two bytes from k on, as one number.
+// The low seven bits of two bytes from k on, as one number. `two`, `four` and `block` have the shape of those of `words`, which keep all
+// eight bits. With the number of bits as a parameter each constant would be a power, and `word` a call of the common form: no plainer.
 fn two(text: &[u8], k: usize) -> u64
     requires { k + 2 ≤ length text.now }
     ensures { (bits_of 14 result ≡ sevens (take 2 (drop k text.now))) × (result < 2 ^ 14) }
 {
-    wide(text[k]) % 128 * 128 + wide(text[k + 1]) % 128
+    u64::from(text[k]) % 128 * 128 + u64::from(text[k + 1]) % 128
 }
 
 // Of four.
@@ -159,28 +142,15 @@ fn block(text: &[u8], k: usize) -> u64
     four(text, k) * 0x1000_0000 + four(text, k + 4)
 }
 
-// The last byte of a word.
-fn low(w: u64) -> u8
-    ensures { result ≡ w % 256 }
-{
-    (w % 256) as u8
-}
-
 // The low n bytes of a word from byte i on.
 pub fn put_bytes(out: &mut [u8], i: usize, w: u64, n: usize)
     requires { (n ≤ 8) × (i + n ≤ length out.old) }
     ensures { unpack out.new ≡ sets (unpack out.old) (i * 8) (bits_of (n * 8) w) }
 {
-    let mut k = i;
-    let mut left = n;
-    while 0 < left {
-        left -= 1;
-        out[k] = low(w >> (left * 8));
-        k += 1;
-    }
+    out[i..i + n].copy_from_slice(&w.to_be_bytes()[8 - n..]);
 }
 
-// The low seven bits of n blocks of eight bytes, behind o bits that are carried to byte i. The last o bits, which fill no byte: the caller stores them.
+// The low seven bits of n blocks of eight bytes, after o bits that are carried to byte i. The last o bits, which fill no byte: the caller stores them.
 fn put_blocks(out: &mut [u8], i: usize, o: usize, first: u64, text: &[u8], n: usize) -> u64
     requires { (o < 8) × (first < 2 ^ o) × (i + n * 7 ≤ length out.old) × (n * 8 ≤ length text.now) }
     ensures upper_bound { result < 2 ^ o }
@@ -188,30 +158,26 @@ fn put_blocks(out: &mut [u8], i: usize, o: usize, first: u64, text: &[u8], n: us
 {
     let p = power(o);
     let mut carried = first;
-    let mut j = 0;
-    while j < n {
+    for j in 0..n {
         let x = carried * 0x100_0000_0000_0000 + block(text, j * 8);
         put_bytes(out, i + j * 7, x >> o, 7);
         carried = x % p;
-        j += 1;
     }
     carried
 }
 
-// The low seven bits of each byte, one by one as long as there is room. The next position.
-fn push_each(out: &mut [u8], at: usize, text: &[u8]) -> usize
-    requires { at + length text.now * 7 < 2 ^ 62 }
-    ensures wrote { Wrote (unpack out.old) at (sevens text.now) (unpack out.new) result }
-    ensures value { result ≡ at + length text.now * 7 }
+// The low n bits of each byte, one by one as long as there is room. The next position.
+fn push_each(out: &mut [u8], at: usize, s: &[u8], n: usize) -> usize
+    requires { (n ≤ 8) × (at + length s.now * n < 2 ^ 62) }
+    ensures wrote { Wrote (unpack out.old) at (bits_each n s.now) (unpack out.new) result }
+    ensures value { result ≡ at + length s.now * n }
 {
     let mut pos = at;
-    let mut i = 0;
-    while i < text.len() {
+    for x in s {
         if out.len() <= pos / 8 {
-            return at + text.len() * 7;
+            return at + s.len() * n;
         }
-        pos = push(out, pos, wide(text[i]), 7);
-        i += 1;
+        pos = push(out, pos, u64::from(*x), n);
     }
     pos
 }
@@ -227,57 +193,39 @@ pub fn push_sevens(out: &mut [u8], at: usize, text: &[u8]) -> usize
         return at + text.len() * 7;
     }
     let o = at % 8;
-    let n = least(text.len() / 8, (out.len() - i) / 7);
-    let first = wide(out[i]) >> (8 - o);
+    let n = (text.len() / 8).min((out.len() - i) / 7);
+    let first = u64::from(out[i]) >> (8 - o);
     let carried = put_blocks(out, i, o, first, text, n);
     let pos = push(out, (i + n * 7) * 8, carried, o);
-    let k = n * 8;
-    push_each(out, pos, &text[k..])
+    push_each(out, pos, &text[n * 8..], 7)
 }
 
-// n words of eight bytes, behind the last o bits of `first`, which are carried to byte i. The last word: the caller stores its last o bits.
+// n words of eight bytes, after the last o bits of `first`, which are carried to byte i. The last word: the caller stores its last o bits.
 fn put_words(out: &mut [u8], i: usize, o: usize, first: u64, s: &[u8], n: usize) -> u64
     requires { (0 < o) × (o < 8) × (i + n * 8 ≤ length out.old) × (n * 8 ≤ length s.now) }
     ensures { sets (unpack out.new) ((i + n * 8) * 8) (bits_of o result) ≡ sets (sets (unpack out.old) (i * 8) (bits_of o first)) (i * 8 + o) (take (n * 64) (unpack s.now)) }
 {
     let mut carried = first;
-    let mut j = 0;
-    while j < n {
+    for j in 0..n {
         let v = word(s, j * 8);
         put_bytes(out, i + j * 8, (carried << (64 - o)) + (v >> o), 8);
         carried = v;
-        j += 1;
     }
     carried
 }
 
-// Whole bytes one by one. The next position.
-fn bytes_each(out: &mut [u8], at: usize, s: &[u8]) -> usize
-    requires { at + length s.now * 8 < 2 ^ 62 }
-    ensures { Wrote (unpack out.old) at (unpack s.now) (unpack out.new) result }
-{
-    let mut pos = at;
-    let mut i = 0;
-    while i < s.len() {
-        pos = push(out, pos, wide(s[i]), 8);
-        i += 1;
-    }
-    pos
-}
-
-// Whole bytes behind a part of a byte. The next position.
+// Whole bytes after a part of a byte. The next position.
 fn push_behind(out: &mut [u8], at: usize, s: &[u8]) -> usize
     requires { (0 < at % 8) × (at / 8 < length out.old) × (at < 2 ^ 61) × (length s.now < 2 ^ 56) }
     ensures { Wrote (unpack out.old) at (unpack s.now) (unpack out.new) result }
 {
     let i = at / 8;
     let o = at % 8;
-    let n = least(s.len() / 8, (out.len() - i) / 8);
-    let first = wide(out[i]) >> (8 - o);
+    let n = (s.len() / 8).min((out.len() - i) / 8);
+    let first = u64::from(out[i]) >> (8 - o);
     let carried = put_words(out, i, o, first, s, n);
     let pos = push(out, (i + n * 8) * 8, carried, o);
-    let k = n * 8;
-    bytes_each(out, pos, &s[k..])
+    push_each(out, pos, &s[n * 8..], 8)
 }
 
 // Whole bytes, eight bits each. The next position.
@@ -295,20 +243,15 @@ pub fn push_bytes(out: &mut [u8], at: usize, s: &[u8]) -> usize
     push_behind(out, at, s)
 }
 
-// Eight pad bits behind a text: the opposite of its last bit, or of the bit before it where it is empty.
+// Eight pad bits after a text: the opposite of its last bit, or of the bit before it where it is empty.
 fn pad_of(last: bool, text: &[u8]) -> u64
     ensures { result ≡ pick (last_or last (sevens text.now)) 0x00 0xFF }
 {
-    if text.len() == 0 {
-        if last {
-            return 0x00;
-        }
-        return 0xFF;
-    }
-    if text[text.len() - 1] % 2 == 1 {
-        return 0x00;
-    }
-    0xFF
+    let last = match text.last() {
+        Some(c) => c % 2 == 1,
+        None => last,
+    };
+    if last { 0x00 } else { 0xFF }
 }
 
 // A text, seven bits a byte, and its pad. `last` is the bit before it, false where there is none. The next position.

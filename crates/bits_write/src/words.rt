@@ -2,11 +2,11 @@
 ghost use Rattle.std.specs.Prelude.{◌≡◌, ◌+◌, ◌*◌, ◌^◌, ◌≤◌, ◌<◌, length, take, drop};
 ghost use Rattle.laws.specs.Bits.{bits_of, unpack};
 
-// A byte as a word.
+// A byte as a word, for the crate `bits`, whose proofs name it.
 pub fn wide(x: u8) -> u64
     ensures { result ≡ x }
 {
-    x as u64
+    u64::from(x)
 }
 
 // 1 and k zeros in binary.
@@ -22,7 +22,7 @@ pub fn one(s: &[u8], i: usize) -> u64
     requires { i < length s.now }
     ensures { (bits_of 8 result ≡ take 8 (drop (i * 8) (unpack s.now))) × (result < 2 ^ 8) }
 {
-    wide(s[i])
+    u64::from(s[i])
 }
 
 // Two bytes from byte i on, as one number.

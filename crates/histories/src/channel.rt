@@ -1,11 +1,12 @@
 // Lines that are a history of calls on one receiver, with states that are kept under names and returned to: document 02, E8.
 ghost use Rattle.std.specs.Prelude.{◌≡◌, length};
 
-use crate::{Opening, Step, call, refused, start, store};
-use kept::{Keeping, Kept, Returned};
+use crate::{Step, call, refused, start, store};
+use kept::{Keeping, Kept};
 use lines::answer::{Outcome, same_count, same_refusal, same_word};
 use lines::field::{field, fields, hex, pieces};
-use receiver::{Fresh, Reassembler};
+use receiver::Reassembler;
+use refusals::Refusal;
 use texts::part::piece;
 
 // The receiver that listens, and the states that are kept.
@@ -25,9 +26,9 @@ struct Turn {
 // channel MASK STEP STEP ..: a new receiver, nothing kept, and one step or more in order; a mask is refused as in a history.
 pub fn channel(line: &[u8]) -> Outcome {
     match start(line) {
-        Opening::Bad => Outcome::Bad,
-        Opening::Refused(n) => refused(line, n),
-        Opening::Ready(receiver) => steps(line, receiver),
+        None => Outcome::Bad,
+        Some(Err(refusal)) => refused(line, refusal),
+        Some(Ok(receiver)) => steps(line, receiver),
     }
 }
 
@@ -46,18 +47,12 @@ fn steps(line: &[u8], receiver: Reassembler) -> Outcome {
         receiver,
         kept: Kept::none(),
     };
-    let n = fields(line);
-    let mut i: usize = 2;
-    while i < n {
+    for i in 2..fields(line) {
         let turn = step(listener, &mut space, &mut lent, field(line, i));
-        let outcome = turn.outcome;
-        let next = turn.listener;
-        match outcome {
-            Outcome::Equal => listener = next,
-            Outcome::Differ => return Outcome::Differ,
-            Outcome::Bad => return Outcome::Bad,
+        match turn.outcome {
+            Outcome::Equal => listener = turn.listener,
+            other => return other,
         }
-        i += 1;
     }
     Outcome::Equal
 }
@@ -66,8 +61,7 @@ fn steps(line: &[u8], receiver: Reassembler) -> Outcome {
 fn step(listener: Listener, space: &mut [u8], lent: &mut [u8], text: &[u8]) -> Turn {
     let what = piece(text, 0, b'=');
     if pieces(what, b':') != 2 {
-        let receiver = listener.receiver;
-        return called(listener, call(receiver, space, text));
+        return called(listener, call(listener.receiver, space, text));
     }
     if pieces(text, b'=') != 2 {
         return bad(listener);
@@ -77,12 +71,12 @@ fn step(listener: Listener, space: &mut [u8], lent: &mut [u8], text: &[u8]) -> T
 
 // What came of a call of a history.
 fn called(listener: Listener, step: Step) -> Turn {
-    let outcome = step.outcome;
-    let receiver = step.receiver;
-    let kept = listener.kept;
     Turn {
-        outcome,
-        listener: Listener { receiver, kept },
+        outcome: step.outcome,
+        listener: Listener {
+            receiver: step.receiver,
+            ..listener
+        },
     }
 }
 
@@ -113,37 +107,28 @@ fn make(
     data: &[u8],
     answer: &[u8],
 ) -> Turn {
-    if check::same(kind, b"n") {
-        return anew(listener, data, answer);
+    match kind {
+        b"n" => anew(listener, data, answer),
+        b"k" => keep(listener, space, lent, data, answer),
+        b"r" => return_to(listener, space, lent, data, answer),
+        b"x" => drop_name(listener, lent, data, answer),
+        _ => bad(listener),
     }
-    if check::same(kind, b"k") {
-        return keep(listener, space, lent, data, answer);
-    }
-    if check::same(kind, b"r") {
-        return return_to(listener, space, lent, data, answer);
-    }
-    if check::same(kind, b"x") {
-        return drop_name(listener, lent, data, answer);
-    }
-    bad(listener)
 }
 
 // n:MASK=ANSWER: a new receiver over the same store; where the mask is refused, the receiver stays.
 fn anew(listener: Listener, mask: &[u8], answer: &[u8]) -> Turn {
-    if mask.len() != 1 {
+    let [mask] = *mask else {
         return bad(listener);
-    }
-    match Reassembler::with_crc_mask(mask[0]) {
-        Fresh::Refused(n) => turned_down(listener, answer, n),
-        Fresh::Ready(receiver) => listening(listener, answer, receiver),
-    }
+    };
+    replaced(listener, answer, Reassembler::with_crc_mask(mask))
 }
 
 // k:NAME=ANSWER: keeps the receiver and its store under a name.
 fn keep(listener: Listener, space: &[u8], lent: &mut [u8], name: &[u8], answer: &[u8]) -> Turn {
     let receiver = listener.receiver;
-    let kept = listener.kept;
-    told(receiver, answer, kept.keep(receiver, space, lent, name))
+    let keeping = listener.kept.keep(receiver, space, lent, name);
+    told(receiver, answer, keeping)
 }
 
 // r:NAME=ANSWER: returns to the receiver that is kept under a name.
@@ -154,50 +139,49 @@ fn return_to(
     name: &[u8],
     answer: &[u8],
 ) -> Turn {
-    let kept = listener.kept;
-    match kept.return_to(space, lent, name) {
-        Returned::Refused(n) => turned_down(listener, answer, n),
-        Returned::Ready(receiver) => listening(listener, answer, receiver),
-    }
+    let returned = listener.kept.return_to(space, lent, name);
+    replaced(listener, answer, returned)
 }
 
 // x:NAME=ANSWER: drops a name.
 fn drop_name(listener: Listener, lent: &[u8], name: &[u8], answer: &[u8]) -> Turn {
-    let receiver = listener.receiver;
-    let kept = listener.kept;
-    told(receiver, answer, kept.drop_name(lent, name))
+    let keeping = listener.kept.drop_name(lent, name);
+    told(listener.receiver, answer, keeping)
 }
 
-// The step is refused, and nothing changes.
-fn turned_down(listener: Listener, answer: &[u8], n: u8) -> Turn {
-    Turn {
-        outcome: same_refusal(answer, n),
-        listener,
-    }
-}
-
-// Another receiver listens.
-fn listening(listener: Listener, answer: &[u8], receiver: Reassembler) -> Turn {
-    let kept = listener.kept;
-    Turn {
-        outcome: same_word(answer, b"ok"),
-        listener: Listener { receiver, kept },
+// Another receiver listens; or the step is refused, and nothing changes.
+fn replaced(listener: Listener, answer: &[u8], other: Result<Reassembler, Refusal>) -> Turn {
+    match other {
+        Ok(receiver) => Turn {
+            outcome: same_word(answer, b"ok"),
+            listener: Listener {
+                receiver,
+                ..listener
+            },
+        },
+        Err(refusal) => Turn {
+            outcome: same_refusal(answer, u8::from(refusal)),
+            listener,
+        },
     }
 }
 
 // What came of a name that was to be kept or dropped.
 fn told(receiver: Reassembler, text: &[u8], keeping: Keeping) -> Turn {
-    let kept = keeping.kept;
     Turn {
-        outcome: same_named(text, keeping.ok, keeping.refusal, keeping.place),
-        listener: Listener { receiver, kept },
+        outcome: same_named(text, keeping),
+        listener: Listener {
+            receiver,
+            kept: keeping.kept,
+        },
     }
 }
 
 // We have the place of a name, or a refusal.
-fn same_named(text: &[u8], ok: bool, refusal: u8, place: usize) -> Outcome {
-    if ok {
-        return same_count(text, place);
+fn same_named(text: &[u8], keeping: Keeping) -> Outcome {
+    if keeping.ok {
+        same_count(text, keeping.place)
+    } else {
+        same_refusal(text, keeping.refusal)
     }
-    same_refusal(text, refusal)
 }

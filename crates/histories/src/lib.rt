@@ -7,7 +7,8 @@ ghost use Rattle.std.specs.Prelude.{◌≡◌, length};
 
 use lines::answer::{Outcome, same_done, same_refusal, same_word};
 use lines::field::{all_hex, call_of, field, fields, pieces};
-use receiver::{Fresh, Push, Pushed, Reassembler};
+use receiver::{Push, Pushed, Reassembler};
+use refusals::Refusal;
 use texts::part::piece;
 
 // What comes of a call, and the receiver that it leaves.
@@ -17,44 +18,33 @@ struct Step {
     receiver: Reassembler,
 }
 
-// What a line starts with: a new receiver, or the refusal of its mask.
-#[derive(Clone, Copy)]
-enum Opening {
-    Bad,
-    Refused(u8),
-    Ready(Reassembler),
-}
-
-// Makes the receiver of a line KIND MASK CALL CALL .., which has one call or more.
-fn start(line: &[u8]) -> Opening {
+// Makes the receiver of a line KIND MASK CALL CALL .., which has one call or more, or refuses its mask. None where the line is not understood.
+fn start(line: &[u8]) -> Option<Result<Reassembler, Refusal>> {
     if fields(line) < 3 {
-        return Opening::Bad;
+        return None;
     }
-    let mut mask = [0u8; 1];
+    let mut mask = [0; 1];
     if !all_hex(field(line, 1), &mut mask) {
-        return Opening::Bad;
+        return None;
     }
-    match Reassembler::with_crc_mask(mask[0]) {
-        Fresh::Refused(n) => Opening::Refused(n),
-        Fresh::Ready(receiver) => Opening::Ready(receiver),
-    }
+    Some(Reassembler::with_crc_mask(mask[0]))
 }
 
 // history MASK CALL CALL ..: a new receiver, and one call or more in order; where the mask is refused, the refusal stands for them
 pub fn history(line: &[u8]) -> Outcome {
     match start(line) {
-        Opening::Bad => Outcome::Bad,
-        Opening::Refused(n) => refused(line, n),
-        Opening::Ready(receiver) => calls(line, receiver),
+        None => Outcome::Bad,
+        Some(Err(refusal)) => refused(line, refusal),
+        Some(Ok(receiver)) => calls(line, receiver),
     }
 }
 
-// The mask is refused, and nothing stands behind the refusal.
-fn refused(line: &[u8], n: u8) -> Outcome {
+// The mask is refused, and nothing stands after the refusal.
+fn refused(line: &[u8], refusal: Refusal) -> Outcome {
     if fields(line) != 3 {
         return Outcome::Bad;
     }
-    same_refusal(field(line, 2), n)
+    same_refusal(field(line, 2), u8::from(refusal))
 }
 
 // The receiver's store. The contract gives only the length, so that no caller's proof unfolds the array.
@@ -65,21 +55,14 @@ fn store() -> [u8; 5000]
 }
 
 // Makes every call of a line, up to the first whose answer is not the recorded one.
-fn calls(line: &[u8], receiver: Reassembler) -> Outcome {
+fn calls(line: &[u8], mut receiver: Reassembler) -> Outcome {
     let mut space = store();
-    let mut state = receiver;
-    let n = fields(line);
-    let mut i: usize = 2;
-    while i < n {
-        let step = call(state, &mut space, field(line, i));
-        let outcome = step.outcome;
-        let next = step.receiver;
-        match outcome {
-            Outcome::Equal => state = next,
-            Outcome::Differ => return Outcome::Differ,
-            Outcome::Bad => return Outcome::Bad,
+    for i in 2..fields(line) {
+        let step = call(receiver, &mut space, field(line, i));
+        match step.outcome {
+            Outcome::Equal => receiver = step.receiver,
+            other => return other,
         }
-        i += 1;
     }
     Outcome::Equal
 }
@@ -118,15 +101,12 @@ fn take_in(
     n: usize,
     answer: &[u8],
 ) -> Step {
-    if check::same(kind, b"p") {
-        let pushed = receiver.push(space, data, n);
-        return told(answer, space, pushed);
-    }
-    if check::same(kind, b"j") {
-        let pushed = receiver.join(space, data, n);
-        return told(answer, space, pushed);
-    }
-    bad(receiver)
+    let pushed = match kind {
+        b"p" => receiver.push(space, data, n),
+        b"j" => receiver.join(space, data, n),
+        _ => return bad(receiver),
+    };
+    told(answer, space, pushed)
 }
 
 // A call that is not understood.
@@ -139,20 +119,18 @@ fn bad(receiver: Reassembler) -> Step {
 
 // What came of a push or a join.
 fn told(text: &[u8], space: &[u8], pushed: Pushed) -> Step {
-    let answer = pushed.answer;
-    let receiver = pushed.receiver;
     Step {
-        outcome: same_heard(text, space, answer),
-        receiver,
+        outcome: same_heard(text, space, pushed.answer),
+        receiver: pushed.receiver,
     }
 }
 
 // We have what a receiver answers, with a message first in its store.
-fn same_heard(text: &[u8], store: &[u8], ours: Push) -> Outcome {
+fn same_heard(text: &[u8], store: &[u8], ours: Result<Push, Refusal>) -> Outcome {
     match ours {
-        Push::Refused(n) => same_refusal(text, n),
-        Push::Dropped(_) => same_word(text, b"dropped"),
-        Push::More => same_word(text, b"more"),
-        Push::Done(n) => same_done(text, store, n),
+        Err(refusal) => same_refusal(text, u8::from(refusal)),
+        Ok(Push::Dropped(_)) => same_word(text, b"dropped"),
+        Ok(Push::More) => same_word(text, b"more"),
+        Ok(Push::Done(n)) => same_done(text, store, n),
     }
 }

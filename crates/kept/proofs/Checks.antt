@@ -1,19 +1,22 @@
 -- The checks of the calls by name, case by case.
 -- Assumes nothing.
 use mathlib.Core.Path.{◌≡◌, refl, sym, ap, ◌∙◌}
-use mathlib.Core.Bool.{true, false}
+use mathlib.Core.Bool.{Bool, true, false, ◌&&◌}
 use mathlib.Core.List.{List, [], ◌∷◌}
-use Rattle.std.proofs.Common.{Option, None, Some}
+use Rattle.std.proofs.Common.{Option, None, Some, Result}
 use Prim.Native.Nat.{ℕ, ◌+◌, ◌≤◌, ◌<◌, max}
 use native.Mathlib.Omega.{arith}
 use native.Mathlib.Numerals.{add-one}
 use lib.ListN.{length, get_or, drop, drop_of_length-le}
 use lib.Seq.{drop-cons}
 use lib.Dec.{ltb, eqb}
+use lib.Pointwise.{pointwise}
 use borrow.Author.Tests.{lt-ltb, ne_eqb}
 use Rattle.laws.specs.Text.{same}
 use Rattle.laws.proofs.Cases.{by_test, by_eq, by_option, pick_true, pick_false}
-use Rattle.refusals.specs.Outcome.{refused, answer}
+use Rattle.refusals.specs.Outcome.{refused, answer, number, outcome_of}
+use Rattle.refusals.specs.declared.Refusal.{Refusal}
+use Rattle.std.specs.Option.{ok_or}
 use Rattle.refusals.proofs.OutcomeLaws.{answer_not, same_answer_lem}
 use Rattle.kept.specs.Keep.{name_ok, is_under, place_under, or_else, place_for, free_slot, size_refusal, refusal_in, kept_refusal, lent_refusal, place_or, placed}
 use Rattle.kept.specs.declared.Kept.{Kept}
@@ -27,6 +30,14 @@ pub same_none : (s : List ℕ) → same s [] ≡ eqb (length s) 0
 unfolding same
 same_none [] = refl
 same_none (x ∷ s) = sym (ne_eqb (length (x ∷ s)) 0 (λ e. omega arith))
+
+-- the library's test of slices is the same
+pub same_bytes : (s t : List ℕ) → pointwise eqb s t ≡ same s t
+unfolding same
+same_bytes [] [] = refl
+same_bytes [] (y ∷ t) = refl
+same_bytes (x ∷ s) [] = refl
+same_bytes (x ∷ s) (y ∷ t) = ap (λ (b : Bool). eqb x y && b) (same_bytes s t)
 
 -- ---- the kept states, one after another
 
@@ -84,6 +95,11 @@ module _ (code len n : ℕ) (place : Option ℕ) where
       (λ j o. record { fine = z; name = t; found = o ∙ ap Some (sym (same_answer_lem (sym e ∙ placed_at z t ∙ ap (place_or n) o))) }))
       (λ t. absurd (answer_not (sym e ∙ placed_name z t))))
       (λ z. absurd (answer_not (sym e ∙ placed_bad z)))
+
+-- a place, or the refusal in its stead
+pub or_place : (place : Option ℕ) (n : Refusal) {r : Result ℕ Refusal} → r ≡ ok_or place n → outcome_of r ≡ place_or (number n) place
+or_place None n e = ap outcome_of e
+or_place (Some i) n e = ap outcome_of e
 
 -- a place is one of the slots
 pub under_small : (name : List ℕ) (ss : List Slot) (i : ℕ) → place_under name ss ≡ Some i → i < length ss

@@ -1,11 +1,11 @@
 -- The 5,000 bytes of a slot among the lent bytes, where those of one slot are written.
 -- Assumes nothing.
-use mathlib.Core.Path.{◌≡◌, refl, ap, ◌∙◌}
-use mathlib.Core.List.{List, [], ◌∷◌, ◌++◌, append-nil}
+use mathlib.Core.Path.{◌≡◌, refl, sym, ap, ◌∙◌}
+use mathlib.Core.List.{List, [], ◌∷◌, ◌++◌}
 use Prim.Native.Nat.{ℕ, suc, ◌+◌, ◌-◌, ◌*◌, ◌≤◌, ◌<◌}
 use native.Mathlib.Omega.{arith}
-use lib.ListN.{length, take, drop, set, length-drop, drop_of_length-le}
-use lib.Seq.{sets, sets-eq, take_at, length-take-le, drop-set-lt, drop-set-add, take-set-le}
+use lib.ListN.{length, take, drop, set}
+use lib.Seq.{sets, sets-eq, take_at, drop-set-lt, drop-set-add, take-set-le}
 use Rattle.laws.proofs.Cases.{by_le}
 use Rattle.laws.proofs.ListLaws.{drop_stored}
 use Rattle.kept.specs.Keep.{start_of, part_of}
@@ -41,16 +41,8 @@ module _ (lent store : List ℕ) (i : ℕ) (whole : length store ≡ 5000) where
       (λ h. part_sets (j * 5000) 5000 (i * 5000) lent store (omega arith))
       (λ h. let g : i < j = omega (arith, n) in ap (take 5000) (drop_sets (j * 5000) (i * 5000) lent store (omega arith)))
 
-pub length_part : (lent : List ℕ) (i : ℕ) → length lent ≡ 40000 → i < 8 → length (part_of lent i) ≡ 5000
-length_part lent i size h = length-take-le 5000 (drop (i * 5000) lent) (omega (arith, length-drop (i * 5000) lent))
-
--- a store over all of a list
-pub sets_whole : (l vs : List ℕ) → length vs ≡ length l → sets l 0 vs ≡ vs
-sets_whole l vs e =
-    sets-eq vs l 0 (omega arith)
-    ∙ ap (λ (r : List ℕ). vs ++ r) (drop_of_length-le l {i = 0 + length vs} (omega arith))
-    ∙ append-nil vs
-
--- what is stored so is what was given
-pub stored_whole : {r ws : List ℕ} (l vs : List ℕ) → r ≡ sets l 0 vs → vs ≡ ws → length ws ≡ length l → r ≡ ws
-stored_whole l vs e q size = e ∙ ap (sets l 0) q ∙ sets_whole l _ size
+-- a copy to the front of a list
+pub front_copied : (l vs ys : List ℕ) → ys ≡ vs → length vs ≤ length l → ys ++ drop (length vs) l ≡ sets l 0 vs
+front_copied l vs ys e h =
+    let z : 0 + length vs ≡ length vs = omega arith in
+    rw e (sym (sets-eq vs l 0 (omega arith) ∙ ap (λ (k : ℕ). vs ++ drop k l) z))

@@ -1,34 +1,22 @@
 -- What the calls return, in the terms of the definitions.
 -- Assumes nothing.
 use Rattle.std.specs.Prelude.{Bool, true, false, List, map, ℕ, ltb}
-use Rattle.std.specs.Prelude.{Option, None, Some}
-use Rattle.refusals.specs.Outcome.{Outcome, refused, answer}
+use Rattle.std.specs.Prelude.{Option, None, Some, Result}
+use Rattle.refusals.specs.Outcome.{Outcome, refused, answer, outcome_of}
+use Rattle.refusals.specs.declared.Refusal.{Refusal}
 use Rattle.receiver.specs.Stored.{receiver_of, stored_of}
 use Rattle.receiver.specs.declared.Reassembler.{Reassembler}
 use Rattle.kept.specs.declared.Keeping.{Keeping}
 use Rattle.kept.specs.declared.Kept.{Kept}
 use Rattle.kept.specs.declared.Slot.{Slot}
-use Rattle.kept.specs.declared.Place.{Place}
-use Rattle.kept.specs.declared.Named.{Named}
-use Rattle.kept.specs.declared.Returned.{Returned}
 use Rattle.kept.specs.Keep.{KeepLeft, ReturnLeft, DropLeft}
 
 -- ---- places
-
--- the place of a slot, or none
-abbrev pub place_in : Place → Option ℕ
-place_in (Place.At i) = Some i
-place_in Place.Nowhere = None
 
 -- whether there is a place
 abbrev pub is_place : Option ℕ → Bool
 is_place None = false
 is_place (Some i) = true
-
--- ok with a place, or a refusal's number
-abbrev pub to_named : Outcome ℕ → Named
-to_named (refused n) = record { ok = false; refusal = n; place = 0 }
-to_named (answer i) = record { ok = true; refusal = 0; place = i }
 
 -- ---- flags
 
@@ -60,11 +48,6 @@ to_keeping_with a = (to_keeping a.outcome a.kept, a.lent)
 abbrev pub to_dropped : DropLeft → Keeping
 to_dropped a = to_keeping a.outcome a.kept
 
--- document 02's number and state for each case of `Returned`
-abbrev pub returned_of : Returned → Outcome Reassembler
-returned_of (Returned.Refused n) = refused n
-returned_of (Returned.Ready r) = answer r
-
 -- what return_to returned, with the store as it leaves it
-abbrev pub return_after : Returned → List ℕ → ReturnLeft
-return_after a store = record { outcome = returned_of a; store = store }
+abbrev pub return_after : Result Reassembler Refusal → List ℕ → ReturnLeft
+return_after a store = record { outcome = outcome_of a; store = store }

@@ -48,17 +48,11 @@ module _ (d : List ℕ) {s t u : List ℕ} {p next : ℕ} where
 
 -- ---- decoding
 
--- what `text7` left is the text, or nothing
-module _ {s u : List ℕ} where
-  next_wrote : (o : Option (List ℕ)) {n : ℕ} → text7_next 0 o ≡ Some n → u ≡ text7_left s 0 o → Wrote s 0 (unwrap_or o []) u n
-  unfolding text7_next text7_left
-  next_wrote None e f = let z : ◌≡◌ {A = ℕ} 0 1 = cc in absurd (omega arith)
-  next_wrote (Some t) e f = record { stored = f; next_is = cc }
-
-  none_wrote : (o : Option (List ℕ)) → text7_next 0 o ≡ None → u ≡ text7_left s 0 o → Wrote s 0 (unwrap_or o []) u 0
-  unfolding text7_next text7_left
-  none_wrote None e f = record { stored = f; next_is = refl }
-  none_wrote (Some t) e f = let z : ◌≡◌ {A = ℕ} 0 1 = cc in absurd (omega arith)
+-- what `text7` left is the text, or nothing, and its answer the place after it, or 0
+left_wrote : {s u : List ℕ} (o : Option (List ℕ)) → u ≡ text7_left s 0 o → Wrote s 0 (unwrap_or o []) u (unwrap_or (text7_next 0 o) 0)
+unfolding text7_next text7_left
+left_wrote None e = record { stored = e; next_is = refl }
+left_wrote (Some t) e = record { stored = e; next_is = refl }
 
 -- the part of a message behind its first byte
 abbrev rest : List ℕ → List ℕ
@@ -76,10 +70,6 @@ module _ (h : ℕ) (m : List ℕ) where
   pub bytes_back : {s u : List ℕ} {n : ℕ} → h % 2 ≡ 0 → Wrote s 0 (rest m) u n → Wrote s 0 (generic_back h (drop 1 m)) u n
   bytes_back e w = wrote_as (bytes_is e) w
 
-  pub text_back : {s u : List ℕ} {n : ℕ} → (h % 2 ≡ 0 → ⊥) → text7_next 0 (text7_of (unpack (rest m)) 0) ≡ Some n → u ≡ text7_left s 0 (text7_of (unpack (rest m)) 0)
-      → Wrote s 0 (generic_back h (drop 1 m)) u n
-  text_back e f g = wrote_as (text_is e) (next_wrote (text7_of (unpack (rest m)) 0) f g)
-
-  pub nothing_back : {s u : List ℕ} → (h % 2 ≡ 0 → ⊥) → text7_next 0 (text7_of (unpack (rest m)) 0) ≡ None → u ≡ text7_left s 0 (text7_of (unpack (rest m)) 0)
-      → Wrote s 0 (generic_back h (drop 1 m)) u 0
-  nothing_back e f g = wrote_as (text_is e) (none_wrote (text7_of (unpack (rest m)) 0) f g)
+  pub text_back : {s u : List ℕ} {r : Option ℕ} {n : ℕ} → (h % 2 ≡ 0 → ⊥) → r ≡ text7_next 0 (text7_of (unpack (rest m)) 0) → n ≡ unwrap_or r 0
+      → u ≡ text7_left s 0 (text7_of (unpack (rest m)) 0) → Wrote s 0 (generic_back h (drop 1 m)) u n
+  text_back e a b f = wrote_as (text_is e) (rw (← a, ← b) at (left_wrote (text7_of (unpack (rest m)) 0) f))

@@ -3,7 +3,8 @@ ghost use Rattle.std.specs.Prelude.{◌≡◌, ◌≤◌, length};
 ghost use Rattle.ax25.specs.Encode.{encode_of};
 ghost use Rattle.kiss.specs.Codec.{code_of};
 ghost use Rattle.kiss.specs.Generic.{generic_of};
-ghost use Rattle.kiss.specs.Told.{outcome_of, length_of};
+ghost use Rattle.refusals.specs.Outcome.{outcome_of};
+ghost use Rattle.kiss.specs.Told.{length_of};
 
 use refusals::{MAX_DATA, Refusal};
 

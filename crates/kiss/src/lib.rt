@@ -55,7 +55,7 @@ fn encode_found(command: u8, data: &[u8], r: Record, out: &mut [u8]) -> Result<(
     let typ = r.aprs_type;
     let mut scratch = [0u8; 512];
     let room = first_room(data.len(), 512);
-    let size = ax25::encode::encode(data, command, r, &mut scratch[..room])?;
+    let size = ax25::encode::encode(data, command, r, &mut scratch[0..room])?;
     if out.len() < size {
         return Err(Refusal::Output);
     }
@@ -63,7 +63,7 @@ fn encode_found(command: u8, data: &[u8], r: Record, out: &mut [u8]) -> Result<(
         let _ = ax25::encode::encode(data, command, r, out);
         return Ok((size, typ));
     }
-    bits_write::copy_all(out, 0, &scratch[..size]);
+    bits_write::copy_all(out, 0, &scratch[0..size]);
     Ok((size, typ))
 }
 
@@ -113,7 +113,7 @@ fn decode_frame(message: &[u8], command: u8, out: &mut [u8], mended: bool) -> Re
     let l = ax25_address::record::call_len(command);
     let mut scratch = [0u8; 1024];
     let room = first_room(message.len(), 1024);
-    let first = &mut scratch[..room];
+    let first = &mut scratch[0..room];
     let needed = ax25_decode::decode(&message[1..], message[0], l, first, mended)
         .ok_or(Refusal::NotDecoded)?;
     if out.len() < needed {

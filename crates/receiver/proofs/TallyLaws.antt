@@ -189,13 +189,13 @@ module _ (t : Tallies) where
 -- ---- the calls
 
 module _ (r : Reassembler) (s f : List ℕ) (n : ℕ) where
-  join_refuses : (refusal_of r.state (length s) ≡ 0 → ⊥) → join_tallied r s f n ≡ turned_away (refusal_of r.state (length s)) r s
+  pub join_refuses : (refusal_of r.state (length s) ≡ 0 → ⊥) → join_tallied r s f n ≡ turned_away (refusal_of r.state (length s)) r s
   unfolding join_tallied pick
   join_refuses h =
       let p : 0 < refusal_of r.state (length s) = omega (arith, h) in
       rw (lt-ltb 0 (refusal_of r.state (length s)) p)
 
-  push_refuses : (refusal_of r.state (length s) ≡ 0 → ⊥) → push_tallied r s f n ≡ turned_away (refusal_of r.state (length s)) r s
+  pub push_refuses : (refusal_of r.state (length s) ≡ 0 → ⊥) → push_tallied r s f n ≡ turned_away (refusal_of r.state (length s)) r s
   unfolding push_tallied pick
   push_refuses h =
       let p : 0 < refusal_of r.state (length s) = omega (arith, h) in

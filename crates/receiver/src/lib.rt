@@ -273,7 +273,7 @@ impl Joiner {
 
 impl Tallies {
     // All are 0.
-    const NONE: Tallies = Tallies {
+    pub const NONE: Tallies = Tallies {
         offered: 0,
         more: 0,
         done: 0,
@@ -307,6 +307,7 @@ impl Tallies {
     }
 
     // One more is answered.
+    #[tactic(auto, using(crate::proofs::TallyLaws::room))]
     fn count(mut self, answer: Push) -> Tallies
         requires { is_full self ≡ false }
         ensures { result ≡ tallied (told_of answer []) self }

@@ -117,15 +117,25 @@ module _ {A : Type 0} {r : Result A Refusal} where
 -- ---- what the exit of a `?` returns
 
 -- the refusal that it passes on
-pub exit_is : {A : Type 0} (r : Result A Refusal) (e : Refusal) → IsErrAnd r (λ y. y ≡ e) → outcome_of r ≡ refused (number e)
-exit_is r e h =
+pub exit_err : {A : Type 0} (r : Result A Refusal) (e : Refusal) → IsErrAnd r (λ y. y ≡ e) → r ≡ Err e
+exit_err r e h =
     let p = err_from_is_err_and r h in
-    rw (p.1, p.2)
+    p.1 ∙ ap (λ (y : Refusal). Err y) p.2
+
+pub exit_is : {A : Type 0} (r : Result A Refusal) (e : Refusal) → IsErrAnd r (λ y. y ≡ e) → outcome_of r ≡ refused (number e)
+exit_is r e h = ap outcome_of (exit_err r e h)
 
 same_err : {A : Type 0} {x y : Refusal} → ◌≡◌ {A = Result A Refusal} (Err y) (Err x) → y ≡ x
 same_err e = cc
 
 -- the refusal x that stands for a missing value
+pub missing_is : {T : Type 0} {o : Option T} (x : Refusal) {y : Refusal} → Err y ≡ ok_or o x → o ≡ None → y ≡ x
+missing_is x e n = same_err (rw n at e)
+
+pub exit_missing : {T A : Type 0} {o : Option T} (x : Refusal) {y : Refusal} → Err y ≡ ok_or o x → o ≡ None
+    → (r : Result A Refusal) → IsErrAnd r (λ z. z ≡ y) → r ≡ Err x
+exit_missing x e n r h = exit_err r _ h ∙ ap (λ (z : Refusal). Err z) (missing_is x e n)
+
 pub exit_none : {T A : Type 0} {o : Option T} (x : Refusal) {y : Refusal} → Err y ≡ ok_or o x → o ≡ None
     → (r : Result A Refusal) → IsErrAnd r (λ z. z ≡ y) → outcome_of r ≡ refused (number x)
-exit_none x e n r h = exit_is r _ h ∙ ap (λ (z : Refusal). refused (number z)) (same_err (rw n at e))
+exit_none x e n r h = ap outcome_of (exit_missing x e n r h)

@@ -6,7 +6,7 @@ use borrow.Author.Rules.{rules}
 use Rattle.ax25_decode.proofs.is_ap.Goals as goal
 
 pub returns-in_default : goal.returns-in_default
-returns-in_default c = ap_none _ _ _ c.token_decode-t.ensures.0 c.in_default.is
+returns-in_default c = ap_none _ _ _ c.token_decode.ensures.0 c.in_default.is
 
 pub returns : goal.returns
-returns c = c.call_starts.ensures ∙ ap_some _ _ _ c.token_decode-t.ensures.0 _ c.in-Next.is
+returns c = c.call_starts.ensures ∙ ap_some _ _ _ c.token_decode.ensures.0 _ _ c.in-Some.is

@@ -7,9 +7,9 @@ use borrow.Author.Rules.{rules}
 use Rattle.ax25_decode.proofs.read_address.Goals as goal
 
 pub returns-in_err-c : goal.returns-in_err-c
-returns-in_err-c c = rw c.from_residual.ensures (token_nothing _ _ _ c.token_decode-t.ensures.0 c.in_err-c.was)
+returns-in_err-c c = rw c.from_residual.ensures (token_nothing _ _ _ c.token_decode.ensures.0 c.in_err-c.was)
 
 pub returns : goal.returns
 returns c =
     let a = c.args in
-    address_next a.l a.h a.last (unpack a.s.now) _ _ c.token_decode-t.ensures.0 _ c.in_ok-c.was _ c.mark.ensures c.call_bytes.ensures
+    address_next a.l a.h a.last (unpack a.s.now) _ _ c.token_decode.ensures.0 _ _ c.in_ok-c.was _ c.mark.ensures c.call_bytes.ensures

@@ -43,7 +43,7 @@ returns-in_err-u c =
     let p = c.in_ok-p.p in
     let t = took (ends_bytes a.l (eqb a.n 0)) b (read_ends a.mended a.l (drop a.n b)) _ 0 _ _ c.read_ends.ensures _ _ c.in_ok-p.was in
     let y = c.is_ap-ap in
-    rw c.from_residual.ensures
+    rw c.from_residual-in_err-u.ensures
     (head_digis a.mended a.l a.n b room t.value (drop p b) t.is y.result y.ensures
     (untaken (digi_bytes a.l b a.n 0) b (read_digis a.mended a.l y.result a.n (drop p b)) _ _ _ _ c.read_digis.ensures c.in_err-u.was))
 
@@ -57,7 +57,7 @@ returns-in_err-typ c =
     let t = took (ends_bytes a.l (eqb a.n 0)) b (read_ends a.mended a.l (drop a.n b)) _ 0 _ _ c.read_ends.ensures _ _ c.in_ok-p.was in
     let y = c.is_ap-ap in
     let d = took (digi_bytes a.l b a.n 0) b (read_digis a.mended a.l y.result a.n (drop p b)) _ _ _ _ c.read_digis.ensures _ _ c.in_ok-u.was in
-    rw c.from_residual.ensures
+    rw c.from_residual-in_err-typ.ensures
     (head_type a.mended a.l a.n b room t.value (drop p b) t.is y.result y.ensures d.value (drop u b) d.is
     (untyped b (read_type y.result (drop u b)) c.read_type.result c.read_type.ensures c.in_err-typ.was))
 

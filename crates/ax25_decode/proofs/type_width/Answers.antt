@@ -8,5 +8,5 @@ use Rattle.ax25_decode.proofs.type_width.Goals as goal
 pub returns-then-ap : goal.returns-then-ap
 returns-then-ap c = (sym (pick_true 3 1 c.if-ap.true), omega arith, omega arith)
 
-pub returns : goal.returns
-returns c = (sym (pick_false 3 1 c.if-ap.false), omega arith, omega arith)
+pub returns-else-ap : goal.returns-else-ap
+returns-else-ap c = (sym (pick_false 3 1 c.if-ap.false), omega arith, omega arith)

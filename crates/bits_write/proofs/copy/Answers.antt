@@ -1,26 +1,34 @@
 -- `bits_write::copy` meets its contract: what has no room is not stored.
 -- Assumes nothing.
-use borrow.Author.Rules.{rules}
 use native.Mathlib.Omega.{arith}
-use mathlib.Core.Path.{refl, sym, ◌∙◌}
-use Prim.Native.Nat.{◌-◌}
-use lib.ListN.{length, length-take}
+use mathlib.Core.Path.{◌≡◌, refl, sym, ap, ◌∙◌}
+use mathlib.Core.List.{List}
+use Prim.Native.Nat.{ℕ, ◌-◌, ◌≤◌, min}
+use lib.ListN.{length, take}
+use lib.Seq.{sets, take_all}
+use Rattle.laws.proofs.Cases.{by_le}
 use Rattle.laws.proofs.ListLaws.{sets_out, sets_clip}
 use Rattle.bits_write.proofs.copy.Goals as goal
+use Rattle.bits_write.proofs.copy.Goals.{then-at-out, else-at-out}
 
-pub returns-then-out-at : goal.returns-then-out-at
-returns-then-out-at c =
+-- what has no room is not stored
+clipped : (out : List ℕ) (at : ℕ) (src : List ℕ) → at ≤ length out → sets out at (take (min (length src) (length out - at)) src) ≡ sets out at src
+clipped out at src h =
+    by_le (length src) (length out - at)
+    (λ p. ap (sets out at) (take_all (min (length src) (length out - at)) src (omega arith)))
+    (λ p. sets_clip out at (min (length src) (length out - at)) src (omega arith) (omega arith))
+
+pub returns : goal.returns
+returns c =
     let a = c.args in
-    record { stored = sym (sets_out a.out.now a.at a.src.now c.if-out-at.true); next_is = refl }
-
-pub slice_bounds-copy_all-end : goal.slice_bounds-copy_all-end
-slice_bounds-copy_all-end c = simp length-take (omega arith)
-
-pub copy_all-requires : goal.copy_all-requires
-copy_all-requires c = simp length-take (omega arith)
-
-pub returns-then-room-src : goal.returns-then-room-src
-returns-then-room-src c =
-    let a = c.before.before.before.before.before.before.before.before.before.args in
     let out = a.out.now in
-    record { stored = c.copy_all.ensures ∙ sets_clip out a.at (length out - a.at) a.src.now (omega arith) (omega arith); next_is = refl }
+    let src = a.src.now in
+    record {
+      stored =
+          elim c.if-at-out.branch [
+            | then-at-out w ↦
+                w.out-is ∙ w.copy_all.ensures ∙ ap (λ (n : ℕ). sets out a.at (take n src)) w.min.ensures ∙ clipped out a.at src (omega arith)
+            | else-at-out w ↦ w.out-is ∙ sym (sets_out out a.at src w.if-at-out.false)
+          ];
+      next_is = refl;
+    }

@@ -1,6 +1,5 @@
 -- `bits_write::four` meets its contract.
 -- Assumes nothing.
-use borrow.Author.Rules.{rules}
 use native.Mathlib.Omega.{arith}
 use Rattle.bits_write.proofs.BlockLaws.{sevens_join}
 use Rattle.bits_write.proofs.four.Goals as goal

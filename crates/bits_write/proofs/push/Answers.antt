@@ -4,9 +4,7 @@ use borrow.Author.Rules.{rules}
 use native.Mathlib.Omega.{arith}
 use native.Mathlib.Nat.{div-one, sub-zero}
 use mathlib.Core.Path.{◌≡◌, refl, sym}
-use Prim.Native.Nat.{◌+◌, ◌-◌, ◌/◌, ◌^◌, ◌≤◌}
-use lib.ListN.{length}
-use lib.Seq.{sets}
+use Prim.Native.Nat.{◌/◌, ◌^◌}
 use Rattle.laws.specs.Bits.{bits_of, unpack}
 use Rattle.laws.proofs.BitLaws.{length_bits}
 use Rattle.laws.proofs.ByteLaws.{bits_past}
@@ -26,7 +24,7 @@ pub loop-left-preserved : goal.loop-left-preserved
 loop-left-preserved c =
     let a = c.args in
     let inv = c.loop-left.invariant in
-    let more = sets_bits_left (unpack a.out.now) a.at a.v {m = c.least-m.result} inv.0 (omega arith) in
+    let more = sets_bits_left (unpack a.out.now) a.at a.v {m = c.min-m.result} inv.0 (omega arith) in
     (search rules, search rules, search rules, rw (← more, ← inv.3, ← inv.1) c.put_part.ensures)
 
 pub returns : goal.returns

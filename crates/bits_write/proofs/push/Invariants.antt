@@ -1,16 +1,10 @@
 -- `bits_write::push` meets its contract. The loop has written all but the last `left` bits of v.
 -- Assumes nothing.
-use borrow.Author.Rules.{rules}
-use native.Mathlib.Omega.{arith}
-use native.Mathlib.Nat.{div-one, sub-zero}
-use mathlib.Core.Path.{◌≡◌, refl, sym}
+use mathlib.Core.Path.{◌≡◌}
 use Prim.Native.Nat.{◌+◌, ◌-◌, ◌/◌, ◌^◌, ◌≤◌}
 use lib.ListN.{length}
 use lib.Seq.{sets}
 use Rattle.laws.specs.Bits.{bits_of, unpack}
-use Rattle.laws.proofs.BitLaws.{length_bits}
-use Rattle.laws.proofs.ByteLaws.{bits_past}
-use Rattle.bits_write.proofs.WriteLaws.{sets_bits_left, sets_bits_none}
 use Rattle.bits_write.proofs.push.Given as goal
 
 abbrev pub invariant-loop-left : goal.invariant-loop-left

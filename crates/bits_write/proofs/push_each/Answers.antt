@@ -1,44 +1,49 @@
--- `bits_write::push_each` meets its contract. The first i bytes are written; at the end of the output the rest is not.
+-- `bits_write::push_each` meets its contract: so many bytes are written, and at the end of the output the rest is not.
 -- Assumes nothing.
-use borrow.Author.Rules.{rules}
 use native.Mathlib.Omega.{arith}
+use native.Mathlib.Nat.{mul-le-mul_right}
 use native.Mathlib.Numerals.{add-one}
-use mathlib.Core.Path.{◌≡◌, refl}
-use Prim.Native.Nat.{◌+◌, ◌-◌, ◌*◌, ◌≤◌}
-use lib.ListN.{length, take, drop}
+use mathlib.Core.Path.{◌≡◌}
+use Prim.Native.Nat.{◌*◌, ◌≤◌}
+use lib.ListN.{length, drop}
 use lib.Seq.{take_all}
-use Rattle.laws.specs.Bits.{unpack}
-use Rattle.laws.specs.Wrote.{Wrote}
 use Rattle.laws.proofs.ByteLaws.{length_unpack}
 use Rattle.laws.proofs.WroteLaws.{wrote_then, wrote_none, stored_past}
-use Rattle.bits_write.specs.Text7.{sevens}
-use Rattle.bits_write.proofs.BlockLaws.{sevens_rest}
-use Rattle.bits_write.proofs.Text7Laws.{length_sevens, sevens_take_suc}
+use Rattle.bits_write.specs.Text7.{bits_each}
+use Rattle.bits_write.proofs.Text7Laws.{length_each, each_take_suc, each_rest}
 use Rattle.bits_write.proofs.push_each.Goals as goal
 
-pub loop-i-init : goal.loop-i-init
-unfolding sevens
-loop-i-init c = (search rules, search rules, search rules, wrote_none)
+pub loop-x-init : goal.loop-x-init
+unfolding bits_each
+loop-x-init c = (omega arith, wrote_none)
 
-pub returns-then-out-pos : goal.returns-then-out-pos
-returns-then-out-pos c =
-    let s = c.args.text.now in
-    let i = c.loop-i.i in
-    let rest = sevens (take (length s - i) (drop i s)) in
-    let all = sevens_rest s i c.loop-i.invariant.0 in
-    let stored = rw all at (stored_past rest c.loop-i.invariant.3 (omega (arith, length_unpack c.loop-i.out))) in record { wrote = record { stored = stored; next_is = omega (arith, length_sevens s) }; value = refl }
+pub returns-then-out-pos-clause-wrote : goal.returns-then-out-pos-clause-wrote
+returns-then-out-pos-clause-wrote c =
+    let a = c.args in
+    let s = a.s.now in
+    let i = c.loop-x.x-index in
+    let all = each_rest a.n s i in
+    let stored = rw all at (stored_past (bits_each a.n (drop i s)) c.loop-x.invariant.1 (omega (arith, length_unpack c.loop-x.out))) in
+    record { stored = stored; next_is = omega (arith, length_each a.n s) }
 
-pub loop-i-preserved : goal.loop-i-preserved
-loop-i-preserved c =
-    let s = c.args.text.now in
-    let i = c.loop-i.i in (
-      search rules,
-      search rules,
-      search rules,
-      rw (add-one, sevens_take_suc s i (omega arith), ← c.wide.ensures)
-          (wrote_then c.loop-i.invariant.3 c.push-pos.ensures.wrote),
+pub push-pos-requires : goal.push-pos-requires
+push-pos-requires c =
+    let a = c.args in
+    let below : c.loop-x.x-index * a.n ≤ length a.s.now * a.n = mul-le-mul_right a.n (omega arith) in
+    (omega arith, omega arith)
+
+pub loop-x-preserved : goal.loop-x-preserved
+loop-x-preserved c =
+    let a = c.args in
+    let i = c.loop-x.x-index in (
+      omega (arith, c.push-pos.ensures.value),
+      rw (add-one, each_take_suc a.n a.s.now i (omega arith), ← c.from.ensures) (wrote_then c.loop-x.invariant.1 c.push-pos.ensures.wrote),
     )
 
-pub returns : goal.returns
-returns c =
-    let s = c.args.text.now in record { wrote = rw (take_all c.loop-i.i s (omega arith)) at c.loop-i.invariant.3; value = search rules }
+pub returns-clause-wrote : goal.returns-clause-wrote
+returns-clause-wrote c = rw (take_all c.loop-x.x-index c.args.s.now (omega arith)) at c.loop-x.invariant.1
+
+pub returns-clause-value : goal.returns-clause-value
+returns-clause-value c =
+    let all : c.loop-x.x-index ≡ length c.args.s.now = omega arith in
+    rw all at c.loop-x.invariant.0

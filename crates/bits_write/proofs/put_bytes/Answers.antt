@@ -1,37 +1,30 @@
--- `bits_write::put_bytes` meets its contract. The loop has written all but the last `left` bytes of w.
+-- `bits_write::put_bytes` meets its contract.
 -- Assumes nothing.
-use borrow.Author.Rules.{rules}
+use mathlib.Core.Path.{◌≡◌, sym, ap, ◌∙◌}
+use mathlib.Core.List.{List}
+use Prim.Native.Nat.{ℕ, ◌+◌, ◌-◌, ◌*◌}
 use native.Mathlib.Omega.{arith}
-use native.Mathlib.Nat.{div-one, sub-zero}
-use mathlib.Core.Path.{◌≡◌, ◌∙◌}
-use Prim.Native.Nat.{◌+◌, ◌-◌, ◌*◌, ◌/◌, ◌^◌, ◌≤◌}
-use lib.ListN.{length}
+use lib.ListN.{length, take, drop}
 use lib.Seq.{sets}
-use Rattle.laws.specs.Bits.{bits_of, unpack}
-use Rattle.laws.proofs.BitLaws.{bits_mod}
-use Rattle.laws.proofs.ByteLaws.{set_bits}
-use Rattle.bits_write.proofs.WriteLaws.{sets_bits_left, sets_bits_none}
+use Rattle.std.specs.Int.{bytes_high_first}
+use Rattle.laws.specs.Bits.{unpack}
+use Rattle.laws.proofs.ByteLaws.{sets_bits}
+use Rattle.laws.proofs.ListLaws.{from_place}
+use Rattle.bits_write.proofs.CopyLaws.{put_mid_sets, unpack_high, drop_high, length_high}
 use Rattle.bits_write.proofs.put_bytes.Goals as goal
-
-pub loop-left-init : goal.loop-left-init
-loop-left-init c =
-    let a = c.args in
-    (search rules, search rules, search rules, sets_bits_none (unpack a.out.now) (a.i * 8) (a.w / 2 ^ (a.n * 8)) (a.n * 8))
-
-pub loop-left-preserved : goal.loop-left-preserved
-loop-left-preserved c =
-    let a = c.args in
-    let inv = c.loop-left.invariant in
-    let k = c.loop-left.k in
-    let left = c.loop-left.left in
-    let more = sets_bits_left (unpack a.out.now) (a.i * 8) a.w {n = a.n * 8} {left = left * 8} {m = 8} (omega arith) (omega arith) in
-    let e : left * 8 - 8 ≡ (left - 1) * 8 = omega arith in
-    let f : a.i * 8 + (a.n * 8 - left * 8) ≡ k * 8 = omega arith in
-    let stored = set_bits c.loop-left.out k c.low.result in
-    let last : bits_of 8 c.low.result ≡ bits_of 8 (a.w / 2 ^ ((left - 1) * 8)) = rw c.low.ensures (bits_mod 8 (a.w / 2 ^ ((left - 1) * 8))) in
-    (search rules, search rules, search rules, stored ∙ rw (last, inv.3) (rw (e, f) at more))
 
 pub returns : goal.returns
 returns c =
-    let none : c.loop-left.left ≡ 0 = omega arith in
-    rw (none, div-one, sub-zero) at c.loop-left.invariant.3
+    let a = c.args in
+    let v = c.copy_from_slice.new.self in
+    let e : (8 - a.n) + a.n ≡ 8 = omega arith in
+    let last : v ≡ bytes_high_first a.n a.w =
+    c.copy_from_slice.ensures.after
+    ∙ ap (λ (l : List ℕ). take (8 - (8 - a.n)) (drop (8 - a.n) l)) c.to_be_bytes.ensures
+    ∙ from_place (bytes_high_first 8 a.w) (8 - a.n)
+    ∙ ap (λ (k : ℕ). drop (8 - a.n) (bytes_high_first k a.w)) (sym e)
+    ∙ drop_high (8 - a.n) a.n a.w in
+    ap unpack (put_mid_sets a.out.now v a.i (a.i + a.n) (omega (arith, ap length last, length_high a.n a.w)) (omega arith))
+    ∙ sets_bits a.out.now a.i v
+    ∙ ap (λ (l : List ℕ). sets (unpack a.out.now) (a.i * 8) (unpack l)) last
+    ∙ ap (sets (unpack a.out.now) (a.i * 8)) (unpack_high a.n a.w)

@@ -4,7 +4,7 @@ use borrow.Author.Rules.{rules}
 use native.Mathlib.Omega.{arith}
 use native.Mathlib.Nat.{add-zero}
 use mathlib.Core.Path.{◌≡◌}
-use Prim.Native.Nat.{◌+◌, ◌-◌, ◌*◌, ◌/◌, ◌%◌, ◌^◌, ◌≤◌}
+use Prim.Native.Nat.{◌+◌, ◌-◌, ◌*◌, ◌/◌, ◌%◌, ◌^◌}
 use lib.ListN.{length, take}
 use lib.Seq.{sets, length-take-le, take-add}
 use Rattle.laws.specs.Bits.{bits_of, unpack}
@@ -13,7 +13,7 @@ use Rattle.bits_write.proofs.BlockLaws.{carry_word, carry_lt, block_on}
 use Rattle.bits_write.proofs.put_words.Goals as goal
 
 pub loop-j-init : goal.loop-j-init
-loop-j-init c = (search rules, search rules, rw add-zero)
+loop-j-init c = (search rules, rw add-zero)
 
 pub overflow_add-carried : goal.overflow_add-carried
 overflow_add-carried c =
@@ -33,10 +33,10 @@ loop-j-preserved c =
     let more = rw g at v.ensures in
     let room : (a.i + j * 8) * 8 + a.o ≡ a.i * 8 + a.o + length (take (j * 64) b) = omega (arith, length-take-le (j * 64) b (omega (arith, length_unpack a.s.now))) in
     let on =
-    block_on (sets (unpack a.out.now) (a.i * 8) (bits_of a.o a.first)) (unpack c.loop-j.out) (a.i * 8 + a.o) ((a.i + j * 8) * 8) a.o 64 carried x v.result (take (j * 64) b) (bits_of 64 v.result) room c.loop-j.invariant.2 (carry_word a.o 64 carried (omega arith) v.type_inv) in
-    (search rules, search rules, rw (c.put_bytes.ensures, ← f, take-add (j * 64) 64 b, ← more) (rw e at on))
+    block_on (sets (unpack a.out.now) (a.i * 8) (bits_of a.o a.first)) (unpack c.loop-j.out) (a.i * 8 + a.o) ((a.i + j * 8) * 8) a.o 64 carried x v.result (take (j * 64) b) (bits_of 64 v.result) room c.loop-j.invariant.1 (carry_word a.o 64 carried (omega arith) v.type_inv) in
+    (search rules, rw (c.put_bytes.ensures, ← f, take-add (j * 64) 64 b, ← more) (rw e at on))
 
 pub returns : goal.returns
 returns c =
     let all : c.loop-j.j ≡ c.args.n = omega arith in
-    rw all at c.loop-j.invariant.2
+    rw all at c.loop-j.invariant.1

@@ -1,6 +1,5 @@
 -- `bits_write::spliced` meets its contract: nothing wraps, and the sum is `splice`.
 -- Assumes nothing.
-use borrow.Author.Rules.{rules}
 use native.Mathlib.Omega.{arith}
 use native.Mathlib.Nat.{le-mul_of_pos_right}
 use mathlib.Core.Path.{◌≡◌}
@@ -28,33 +27,34 @@ module _ (x v m r p q : ℕ) (small : m + r ≤ 8) (byte : x < 256) (e : p ≡ 2
   fits = (le-mul_of_pos_right (x / q / p * p + v % p) q_pos, omega (arith, sum_is, splice_lt 8 (8 - (m + r)) m r x v (omega arith) (omega arith)))
 
 pub nonzero_div-result : goal.nonzero_div-result
-nonzero_div-result c = q_pos c.args.x c.args.v c.args.m c.args.r c.power-p.result c.power-q.result c.requires (omega arith) c.power-p.ensures c.power-q.ensures
+nonzero_div-result c = q_pos c.from-w.result c.args.v c.args.m c.args.r c.power-p.result c.power-q.result c.requires (omega arith) c.power-p.ensures c.power-q.ensures
 
 pub nonzero_div-result-2 : goal.nonzero_div-result-2
-nonzero_div-result-2 c = p_pos c.args.x c.args.v c.args.m c.args.r c.power-p.result c.power-q.result c.requires (omega arith) c.power-p.ensures c.power-q.ensures
+nonzero_div-result-2 c = p_pos c.from-w.result c.args.v c.args.m c.args.r c.power-p.result c.power-q.result c.requires (omega arith) c.power-p.ensures c.power-q.ensures
 
 pub nonzero_rem-result : goal.nonzero_rem-result
-nonzero_rem-result c = p_pos c.args.x c.args.v c.args.m c.args.r c.power-p.result c.power-q.result c.requires (omega arith) c.power-p.ensures c.power-q.ensures
+nonzero_rem-result c = p_pos c.from-w.result c.args.v c.args.m c.args.r c.power-p.result c.power-q.result c.requires (omega arith) c.power-p.ensures c.power-q.ensures
 
 pub nonzero_rem-result-2 : goal.nonzero_rem-result-2
-nonzero_rem-result-2 c = q_pos c.args.x c.args.v c.args.m c.args.r c.power-p.result c.power-q.result c.requires (omega arith) c.power-p.ensures c.power-q.ensures
+nonzero_rem-result-2 c = q_pos c.from-w.result c.args.v c.args.m c.args.r c.power-p.result c.power-q.result c.requires (omega arith) c.power-p.ensures c.power-q.ensures
 
 pub overflow_mul-result : goal.overflow_mul-result
-overflow_mul-result c = omega (arith, fits c.args.x c.args.v c.args.m c.args.r c.power-p.result c.power-q.result c.requires (omega arith) c.power-p.ensures c.power-q.ensures)
+overflow_mul-result c = omega (arith, fits c.from-w.result c.args.v c.args.m c.args.r c.power-p.result c.power-q.result c.requires (omega arith) c.power-p.ensures c.power-q.ensures)
 
 pub overflow_add-result : goal.overflow_add-result
-overflow_add-result c = omega (arith, fits c.args.x c.args.v c.args.m c.args.r c.power-p.result c.power-q.result c.requires (omega arith) c.power-p.ensures c.power-q.ensures)
+overflow_add-result c = omega (arith, fits c.from-w.result c.args.v c.args.m c.args.r c.power-p.result c.power-q.result c.requires (omega arith) c.power-p.ensures c.power-q.ensures)
 
 pub overflow_mul-result-2 : goal.overflow_mul-result-2
-overflow_mul-result-2 c = omega (arith, fits c.args.x c.args.v c.args.m c.args.r c.power-p.result c.power-q.result c.requires (omega arith) c.power-p.ensures c.power-q.ensures)
+overflow_mul-result-2 c = omega (arith, fits c.from-w.result c.args.v c.args.m c.args.r c.power-p.result c.power-q.result c.requires (omega arith) c.power-p.ensures c.power-q.ensures)
 
 pub overflow_add-result-2 : goal.overflow_add-result-2
-overflow_add-result-2 c = omega (arith, fits c.args.x c.args.v c.args.m c.args.r c.power-p.result c.power-q.result c.requires (omega arith) c.power-p.ensures c.power-q.ensures)
+overflow_add-result-2 c = omega (arith, fits c.from-w.result c.args.v c.args.m c.args.r c.power-p.result c.power-q.result c.requires (omega arith) c.power-p.ensures c.power-q.ensures)
 
 pub overflow_cast-result : goal.overflow_cast-result
-overflow_cast-result c = omega (arith, fits c.args.x c.args.v c.args.m c.args.r c.power-p.result c.power-q.result c.requires (omega arith) c.power-p.ensures c.power-q.ensures)
+overflow_cast-result c = omega (arith, fits c.from-w.result c.args.v c.args.m c.args.r c.power-p.result c.power-q.result c.requires (omega arith) c.power-p.ensures c.power-q.ensures)
 
 pub returns : goal.returns
 returns c =
     let a = c.args in
-    rw (sum_is c.args.x c.args.v c.args.m c.args.r c.power-p.result c.power-q.result c.requires (omega arith) c.power-p.ensures c.power-q.ensures) (bits_splice 8 (8 - (a.m + a.r)) a.m a.r a.x a.v (omega arith))
+    rw (sum_is c.from-w.result a.v a.m a.r c.power-p.result c.power-q.result c.requires (omega arith) c.power-p.ensures c.power-q.ensures, c.from-w.ensures)
+    (bits_splice 8 (8 - (a.m + a.r)) a.m a.r a.x a.v (omega arith))

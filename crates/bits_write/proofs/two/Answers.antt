@@ -1,6 +1,5 @@
 -- `bits_write::two` meets its contract.
 -- Assumes nothing.
-use borrow.Author.Rules.{rules}
 use native.Mathlib.Omega.{arith}
 use Prim.Native.Nat.{◌+◌, ◌%◌}
 use Rattle.bits_write.proofs.BlockLaws.{seven_at, sevens_join}
@@ -10,6 +9,4 @@ pub returns : goal.returns
 returns c =
     let a = c.args in
     let s = a.text.now in
-    let front = c.wide in
-    let back = c.wide-2 in
-    (sevens_join s a.k 1 1 (front.result % 128) (rw front.ensures (seven_at s a.k (omega arith))) (rw back.ensures (seven_at s (a.k + 1) (omega arith))) (omega arith), omega arith)
+    (sevens_join s a.k 1 1 (c.from.result % 128) (rw c.from.ensures (seven_at s a.k (omega arith))) (rw c.from-2.ensures (seven_at s (a.k + 1) (omega arith))) (omega arith), omega arith)

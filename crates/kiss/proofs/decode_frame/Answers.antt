@@ -1,5 +1,7 @@
 -- `kiss::decode_frame` meets its contract.
 -- Assumes nothing.
+use Rattle.refusals.specs.declared.Refusal.TheVariants as refusal
+use Rattle.refusals.proofs.OutcomeLaws.{exit_missing}
 use borrow.Author.Rules.{rules}
 use native.Mathlib.Omega.{arith}
 use Rattle.kiss.proofs.DecodeLaws.{letters, frame_none, frame_short, frame_fits, frame_copied}
@@ -17,7 +19,8 @@ returns-in_err-needed c =
     let a = c.args in
     let l = c.call_len-l in
     let d = c.decode in
-    frame_none a.mended a.command l.result _ a.message.now l.ensures a.out.now _ d.new.out d.result d.ensures c.in_err-needed.ensures.ok_part
+    rw (exit_missing refusal.NotDecoded c.in_err-needed.ensures.value c.in_err-needed.ensures.ok_part _ c.from_residual.ensures.1)
+    (frame_none a.mended a.command l.result _ a.message.now l.ensures a.out.now _ d.new.out d.result d.ensures c.in_err-needed.ensures.ok_part)
 
 pub returns-then-out-needed : goal.returns-then-out-needed
 returns-then-out-needed c =

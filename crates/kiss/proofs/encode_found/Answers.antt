@@ -1,5 +1,6 @@
 -- `kiss::encode_found` meets its contract.
 -- Assumes nothing.
+use Rattle.refusals.proofs.OutcomeLaws.{exit_err}
 use native.Mathlib.Omega.{arith}
 use Rattle.ax25_address.specs.Record.{record_of}
 use Rattle.ax25.specs.Encode.{encode_of}
@@ -30,7 +31,8 @@ pub returns-in_err-size : goal.returns-in_err-size
 returns-in_err-size c =
     let d = c.encode in
     let a = c.args in
-    run_refused a.out.now _ _ d.result (encode_of a.command a.«data».now) d.ensures _ c.in_err-size.was
+    rw (exit_err _ _ c.from_residual.ensures.1)
+    (run_refused a.out.now _ _ d.result (encode_of a.command a.«data».now) d.ensures _ c.in_err-size.was)
 
 pub returns : goal.returns
 returns c =

@@ -82,7 +82,7 @@ returns-in_err-q c =
     let d = a.frame.now in
     let l = c.call_len-l in
     let k = at_letters a.command l.result d (record_of a.r) l.ensures c.requires.1 in
-    refused_codes a.command l.result d (record_of a.r) l.ensures k _ _ _ c.put_head.ensures _ c.in_ok-p.ensures.ok_part _ _ c.put_body.ensures _ c.in_err-q.was _ _ _ (exit_is _ _ c.from_residual-2.ensures.1)
+    refused_codes a.command l.result d (record_of a.r) l.ensures k _ _ _ c.put_head.ensures _ c.in_ok-p.ensures.ok_part _ _ c.put_body.ensures _ c.in_err-q.was _ _ _ (exit_is _ _ c.from_residual-in_err-q.ensures.1)
 
 pub returns : goal.returns
 returns c =

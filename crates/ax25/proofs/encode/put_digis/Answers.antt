@@ -38,7 +38,7 @@ returns-in-Some c =
     let other = c.if-n-eq0.false in
     let e : alias_number a.alias ≡ suc c.in-Some.i = ap alias_number c.in-Some.is in
     digis_aliased a.l (map (addr_call a.l) (fields_of a.l a.n a.f.now)) (λ e. other (sym (digis_count a.l a.n a.f.now) ∙ e)) a.ap _ a.at _
-    (alias_number a.alias) _ _ (c.if-not-ap.false) c.requires.6 (alias_bit a.alias c.bit-p.ensures)
+    (alias_number a.alias) _ _ (c.if-not-ap.false) c.requires.6 (alias_bit a.alias (rw c.is_some.ensures at c.bit-p.ensures))
     (omega (arith, e)) (rw (e, ← add-one c.in-Some.i) c.push.ensures.wrote)
 
 pub returns : goal.returns
@@ -47,5 +47,5 @@ returns c =
     let other = c.if-n-eq0.false in
     let e : alias_number a.alias ≡ 0 = ap alias_number c.in_default.is in
     digis_marked a.l (map (addr_call a.l) (fields_of a.l a.n a.f.now)) (λ e. other (sym (digis_count a.l a.n a.f.now) ∙ e)) a.ap _ a.at _
-    (alias_number a.alias) _ _ (c.if-not-ap.false) c.requires.6 (alias_bit a.alias c.bit-p.ensures)
+    (alias_number a.alias) _ _ (c.if-not-ap.false) c.requires.6 (alias_bit a.alias (rw c.is_some.ensures at c.bit-p.ensures))
     (omega (arith, e)) _ c.put_tokens-2.ensures

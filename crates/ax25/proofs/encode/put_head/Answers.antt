@@ -13,15 +13,15 @@ use Rattle.ax25.proofs.CoderLaws.{address_room}
 use Rattle.ax25.proofs.HeadCode.{from, parts_of, parts_are, heard_room, digis_room, bad_dest, bad_src, bad_digis, head_wrote}
 use Rattle.ax25.proofs.encode.put_head.Goals as goal
 
-pub slice_bounds-put_heard-count : goal.slice_bounds-put_heard-count
-slice_bounds-put_heard-count c =
+pub slice_bounds-digis-count : goal.slice_bounds-digis-count
+slice_bounds-digis-count c =
     let a = c.args in
     let d = a.frame.now in
     let k = known a.command a.l d (record_of a.r) c.requires.3 in
     k.front
 
-pub slice_bounds-put_heard-start : goal.slice_bounds-put_heard-start
-slice_bounds-put_heard-start c =
+pub slice_bounds-digis-start : goal.slice_bounds-digis-start
+slice_bounds-digis-start c =
     let a = c.args in
     let d = a.frame.now in
     let k = known a.command a.l d (record_of a.r) c.requires.3 in
@@ -80,23 +80,9 @@ returns-in_err-q c = λ p e.
     let a = c.args in
     let d = a.frame.now in
     let k = known a.command a.l d (record_of a.r) c.requires.3 in
-    rw c.from_residual.ensures
+    rw c.from_residual-in_err-q.ensures
     (bad_src a.command a.l d (record_of a.r) p (parts_are a.command a.l d (record_of a.r) k p e) _ _ _ _ _ c.in_ok-p.was c.put_address.ensures
     _ _ c.put_address-2.ensures c.in_err-q.was _ 8 _)
-
-pub slice_bounds-put_digis-count : goal.slice_bounds-put_digis-count
-slice_bounds-put_digis-count c =
-    let a = c.args in
-    let d = a.frame.now in
-    let k = known a.command a.l d (record_of a.r) c.requires.3 in
-    k.front
-
-pub slice_bounds-put_digis-start : goal.slice_bounds-put_digis-start
-slice_bounds-put_digis-start c =
-    let a = c.args in
-    let d = a.frame.now in
-    let k = known a.command a.l d (record_of a.r) c.requires.3 in
-    k.front
 
 pub put_digis-requires : goal.put_digis-requires
 put_digis-requires c =
@@ -114,7 +100,7 @@ returns-in_err-e c = λ p e.
     let a = c.args in
     let d = a.frame.now in
     let k = known a.command a.l d (record_of a.r) c.requires.3 in
-    rw c.from_residual.ensures
+    rw c.from_residual-in_err-e.ensures
     (bad_digis a.command a.l d (record_of a.r) p (parts_are a.command a.l d (record_of a.r) k p e) _ _ _ _ _ c.in_ok-p.was c.put_address.ensures
     _ _ c.put_address-2.ensures _ c.in_ok-q.was _ _ c.put_digis.ensures c.in_err-e.was _ 8 _)
 

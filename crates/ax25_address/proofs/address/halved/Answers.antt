@@ -1,6 +1,5 @@
 -- `ax25_address::address::halved` meets its contract: the call holds the letters before the place.
 -- Assumes nothing.
-use borrow.Author.Rules.{rules}
 use native.Mathlib.Omega.{arith}
 use mathlib.Core.Path.{◌≡◌, ap, ◌∙◌}
 use mathlib.Core.List.{List, map}

@@ -3,20 +3,11 @@
 use borrow.Author.Rules.{rules}
 use native.Mathlib.Omega.{arith}
 use native.Mathlib.Numerals.{add-one}
-use mathlib.Core.Path.{◌≡◌, sym, ◌∙◌}
-use Prim.Native.Nat.{◌+◌, ◌-◌, ◌≤◌}
-use lib.ListN.{length, drop}
+use mathlib.Core.Path.{sym, ◌∙◌}
 use Rattle.ax25_token.proofs.PutLaws.{map_plain}
 use Rattle.ax25_address.specs.Address.{addr_call}
-use Rattle.ax25_address.specs.Parse.{aliases, alias_from, alias_of}
-use Rattle.ax25_address.proofs.AliasLaws.{room_next, digis, of_none, search_all, search_hit, search_miss, search_end}
+use Rattle.ax25_address.proofs.AliasLaws.{of_none, search_all, search_hit, search_miss, search_end}
 use Rattle.ax25_address.proofs.alias.alias.Goals as goal
-
-pub addr_call-first-requires : goal.addr_call-first-requires
-addr_call-first-requires c =
-    let a = c.args in
-    let room = room_next a.l a.n (length a.f.now) c.if-n-eq0.false c.requires.2 in
-    (omega (arith, room.0), search rules)
 
 pub returns-then-n-eq0 : goal.returns-then-n-eq0
 returns-then-n-eq0 c =

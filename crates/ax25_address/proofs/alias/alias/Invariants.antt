@@ -1,14 +1,10 @@
 -- `ax25_address::alias::alias` meets its contract. The invariant: the search from the i-th name on is the whole search.
 -- Assumes nothing.
-use borrow.Author.Rules.{rules}
-use native.Mathlib.Omega.{arith}
-use mathlib.Core.Path.{◌≡◌, sym, ◌∙◌}
-use Prim.Native.Nat.{◌+◌, ◌-◌, ◌≤◌}
-use lib.ListN.{length, drop}
-use Rattle.ax25_token.proofs.PutLaws.{map_plain}
-use Rattle.ax25_address.specs.Address.{addr_call}
+use mathlib.Core.Path.{◌≡◌}
+use Prim.Native.Nat.{◌+◌}
+use lib.ListN.{drop}
 use Rattle.ax25_address.specs.Parse.{aliases, alias_from, alias_of}
-use Rattle.ax25_address.proofs.AliasLaws.{room_next, digis, of_none, search_all, search_hit, search_miss, search_end}
+use Rattle.ax25_address.proofs.AliasLaws.{digis}
 use Rattle.ax25_address.proofs.alias.alias.Given as goal
 
 abbrev pub invariant-loop-i : goal.invariant-loop-i

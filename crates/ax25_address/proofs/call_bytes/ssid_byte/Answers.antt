@@ -1,7 +1,6 @@
 -- `ax25_address::call_bytes::ssid_byte` meets its contract.
 -- Assumes nothing.
 use Rattle.ax25_address.proofs.CallField.{ssid_none, ssid_shifted}
-use borrow.Author.Rules.{rules}
 use Rattle.ax25_address.proofs.call_bytes.ssid_byte.Goals as goal
 
 pub returns-then-c-k : goal.returns-then-c-k

@@ -3,7 +3,6 @@
 use native.Mathlib.Omega.{arith}
 use Rattle.ax25_token.proofs.Hyphen.{base_short}
 use Rattle.ax25_address.proofs.CallField.{field_wrote}
-use borrow.Author.Rules.{rules}
 use Rattle.ax25_address.proofs.call_bytes.text_bytes.Goals as goal
 
 pub slice_bounds-put_base-end : goal.slice_bounds-put_base-end

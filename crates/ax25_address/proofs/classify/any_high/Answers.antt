@@ -1,18 +1,15 @@
 -- `ax25_address::classify::any_high` meets its contract. `all` has bit 80 where a byte that was passed has it.
 -- Assumes nothing.
-use mathlib.Core.Path.{◌≡◌, refl, sym}
-use mathlib.Core.Bool.{◌||◌, or_assoc, or-false}
+use mathlib.Core.Path.{sym}
+use mathlib.Core.Bool.{or_assoc, or-false}
 use native.Mathlib.Omega.{arith}
-use Prim.Native.Nat.{◌+◌, ◌-◌, ◌≤◌, ◌<◌}
+use Prim.Native.Nat.{◌+◌, ◌<◌}
 use lib.Bits.{or_lt}
 use lib.Dec.{leb}
-use lib.ListN.{length, get_or, drop}
+use lib.ListN.{get_or, drop}
 use Rattle.ax25_address.specs.Classify.{any_high}
 use Rattle.ax25_address.proofs.ClassifyLaws.{high_end, high_at, or_high}
 use Rattle.ax25_address.proofs.classify.any_high.Goals as goal
-
-pub loop-x-init : goal.loop-x-init
-loop-x-init c = (omega arith, refl)
 
 pub loop-x-preserved : goal.loop-x-preserved
 loop-x-preserved c =

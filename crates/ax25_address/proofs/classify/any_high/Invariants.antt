@@ -1,14 +1,11 @@
 -- `ax25_address::classify::any_high` meets its contract. `all` has bit 80 where a byte that was passed has it.
 -- Assumes nothing.
-use mathlib.Core.Path.{◌≡◌, refl, sym}
-use mathlib.Core.Bool.{◌||◌, or_assoc, or-false}
-use native.Mathlib.Omega.{arith}
-use Prim.Native.Nat.{◌+◌, ◌-◌, ◌≤◌, ◌<◌}
-use lib.Bits.{or_lt}
+use mathlib.Core.Path.{◌≡◌}
+use mathlib.Core.Bool.{◌||◌}
+use Prim.Native.Nat.{◌<◌}
 use lib.Dec.{leb}
-use lib.ListN.{length, get_or, drop}
+use lib.ListN.{drop}
 use Rattle.ax25_address.specs.Classify.{any_high}
-use Rattle.ax25_address.proofs.ClassifyLaws.{high_end, high_at, or_high}
 use Rattle.ax25_address.proofs.classify.any_high.Given as goal
 
 abbrev pub invariant-loop-x : goal.invariant-loop-x

@@ -1,38 +1,18 @@
 -- `ax25_address::classify::scan_third` meets its contract. The answer is that of the rest with the counts so far, which are at most the place.
 -- Assumes nothing.
-use mathlib.Core.Path.{◌≡◌, refl}
-use native.Mathlib.Omega.{arith}
-use Prim.Native.Nat.{◌≤◌, ◌-◌}
-use lib.ListN.{length, drop}
 use Rattle.laws.specs.Pick.{pick}
-use Rattle.ax25_address.specs.Classify.{scan_third}
 use Rattle.ax25_address.proofs.ClassifyLaws.{scan_end, scan_at, tally_le}
 use Rattle.ax25_address.proofs.classify.scan_third.Goals as goal
-
-pub loop-i-init : goal.loop-i-init
-loop-i-init c = (omega arith, omega arith, refl)
-
-pub stops_at-requires : goal.stops_at-requires
-stops_at-requires c = omega arith
 
 pub returns-then-stops_at : goal.returns-then-stops_at
 unfolding pick
 returns-then-stops_at c =
     rw (← c.loop-i.invariant.2, scan_at _ _ _ _ c.loop-i-test.true, ← c.stops_at.ensures, c.if-stops_at.true)
 
-pub ends_at-requires : goal.ends_at-requires
-ends_at-requires c = omega arith
-
 pub returns-then-ends_at : goal.returns-then-ends_at
 unfolding pick
 returns-then-ends_at c =
     rw (← c.loop-i.invariant.2, scan_at _ _ _ _ c.loop-i-test.true, ← c.stops_at.ensures, c.if-stops_at.false, ← c.ends_at.ensures, c.if-ends_at.true)
-
-pub tally-gt-requires : goal.tally-gt-requires
-tally-gt-requires c = omega arith
-
-pub tally-comma-requires : goal.tally-comma-requires
-tally-comma-requires c = omega arith
 
 pub loop-i-preserved : goal.loop-i-preserved
 unfolding pick
@@ -41,7 +21,7 @@ loop-i-preserved c =
     let m = c.tally-comma.ensures in
     let inv = c.loop-i.invariant in (
       rw n (tally_le _ _ _ _ inv.0),
-      rw m (tally_le _ _ _ _ inv.1 ),
+      rw m (tally_le _ _ _ _ inv.1),
       rw (← inv.2, scan_at _ _ _ _ c.loop-i-test.true, ← c.stops_at.ensures, c.if-stops_at.false, ← c.ends_at.ensures, c.if-ends_at.false, n, m),
     )
 

@@ -1,12 +1,9 @@
 -- `ax25_address::classify::scan_third` meets its contract. The answer is that of the rest with the counts so far, which are at most the place.
 -- Assumes nothing.
-use mathlib.Core.Path.{◌≡◌, refl}
-use native.Mathlib.Omega.{arith}
-use Prim.Native.Nat.{◌≤◌, ◌-◌}
-use lib.ListN.{length, drop}
-use Rattle.laws.specs.Pick.{pick}
+use mathlib.Core.Path.{◌≡◌}
+use Prim.Native.Nat.{◌≤◌}
+use lib.ListN.{drop}
 use Rattle.ax25_address.specs.Classify.{scan_third}
-use Rattle.ax25_address.proofs.ClassifyLaws.{scan_end, scan_at, tally_le}
 use Rattle.ax25_address.proofs.classify.scan_third.Given as goal
 
 abbrev pub invariant-loop-i : goal.invariant-loop-i

@@ -4,7 +4,6 @@ use native.Mathlib.Omega.{arith}
 use Prim.Native.Nat.{◌+◌}
 use Rattle.std.proofs.lemmas.Grind.{common_steps}
 use mathlib.Core.Path.{◌≡◌, ◌∙◌}
-use mathlib.Core.Bool.{Bool}
 use lib.ListN.{drop}
 use Rattle.laws.specs.Text.{ascii, starts}
 use Rattle.ax25_address.specs.Classify.{stops_at}

@@ -1,8 +1,7 @@
 -- `ax25_address::parse::digipeaters` meets its contract, by what the count says.
 -- Assumes nothing.
-use borrow.Author.Rules.{rules}
 use native.Mathlib.Omega.{arith}
-use mathlib.Core.Path.{sym, ap, ◌∙◌}
+use mathlib.Core.Path.{sym, ◌∙◌}
 use Rattle.ax25_address.proofs.DigiLaws.{end_size, count_no, count_cut, count_few, count_end, count_is}
 use Rattle.ax25_address.proofs.parse.digipeaters.Goals as goal
 

@@ -1,6 +1,5 @@
 -- `ax25_address::record::is_ap` meets its contract.
 -- Assumes nothing.
-use borrow.Author.Rules.{rules}
 use mathlib.Core.Path.{ap, ◌∙◌}
 use Rattle.laws.specs.Text.{ascii, starts}
 use Rattle.ax25_token.proofs.PutLaws.{map_up}

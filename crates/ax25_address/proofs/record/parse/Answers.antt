@@ -6,7 +6,6 @@ use Rattle.ax25_address.specs.Record.{found_of}
 use Rattle.ax25_address.proofs.DigiLaws.{end_above}
 use Rattle.ax25_address.proofs.PlaceLaws.{found_has, short_none}
 use Rattle.ax25_address.proofs.RecordLaws.{call_size, seen_some, seen_none}
-use borrow.Author.Rules.{rules}
 use Rattle.ax25_address.proofs.record.parse.Goals as goal
 
 pub digipeaters-requires : goal.digipeaters-requires

@@ -1,14 +1,10 @@
 -- `ax25_address::trim::copied` meets its contract: the call holds the bytes before the place.
 -- Assumes nothing.
-use borrow.Author.Rules.{rules}
 use native.Mathlib.Omega.{arith}
-use mathlib.Core.Path.{◌≡◌, refl, ap, ◌∙◌}
-use mathlib.Core.List.{List, map}
-use Prim.Native.Nat.{ℕ}
-use lib.ListN.{length, length-set, take}
-use lib.Seq.{take_all}
+use mathlib.Core.Path.{refl, ap, ◌∙◌}
+use lib.ListN.{length-set}
 use Rattle.ax25_token.specs.declared.Call.{Call}
-use Rattle.ax25_token.specs.Call.{empty, pushed, appended}
+use Rattle.ax25_token.specs.Call.{pushed}
 use Rattle.ax25_token.specs.Put.{cased_of}
 use Rattle.ax25_address.proofs.LetterLaws.{none_taken, letter_more}
 use Rattle.ax25_address.proofs.trim.copied.Goals as goal
@@ -24,12 +20,3 @@ loop-i-preserved c =
       length-set l.bytes l.i c.cased.result ∙ l.invariant.0,
       letter_more (cased_of a.up) a.s.now l.i (omega arith) held _ l.invariant.1 (ap (pushed held) c.cased.ensures),
     )
-
-pub returns : goal.returns
-returns c =
-    let l = c.loop-i in
-    let a = c.args in
-    let s = a.s.now in
-    let n : length s ≡ l.i = omega arith in
-    let all = take_all l.i s c.loop-i-test.false in
-    (rw n (l.invariant.1 ∙ ap (λ (t : List ℕ). appended empty (map (cased_of a.up) t)) all), omega arith)

@@ -1,20 +1,15 @@
 -- `ax25_address::trim::end` meets its contract. The bytes passed, from the end, are white space.
 -- Assumes nothing.
 use native.Mathlib.Omega.{arith}
-use borrow.Author.Rules.{rules}
-use mathlib.Core.Path.{◌≡◌, sym, ap, ◌∙◌}
+use mathlib.Core.Path.{◌≡◌, sym, ◌∙◌}
 use mathlib.Core.Bool.{true, false}
 use Prim.Native.Nat.{◌-◌, suc}
 use native.Mathlib.Numerals.{add-one}
 use lib.ListN.{get_or}
-use lib.Seq.{take-length}
 use Rattle.laws.specs.Text.{trim_end}
 use Rattle.ax25_address.specs.Address.{white_in}
 use Rattle.ax25_address.proofs.WhiteLaws.{right_more, right_here}
 use Rattle.ax25_address.proofs.trim.end.Goals as goal
-
-pub loop-i-init : goal.loop-i-init
-loop-i-init c = ap (trim_end (white_in c.args.call)) (take-length _)
 
 pub returns-then-not-is_white : goal.returns-then-not-is_white
 returns-then-not-is_white c =

@@ -1,6 +1,5 @@
 -- `ax25_address::trim::trimmed` meets its contract.
 -- Assumes nothing.
-use borrow.Author.Rules.{rules}
 use mathlib.Core.Path.{◌∙◌}
 use Rattle.laws.specs.Text.{trim}
 use Rattle.ax25_token.proofs.PutLaws.{map_up}

@@ -1,6 +1,5 @@
 -- `ax25_address::trim::trimmed_as` meets its contract.
 -- Assumes nothing.
-use borrow.Author.Rules.{rules}
 use native.Mathlib.Omega.{arith}
 use Rattle.ax25_token.specs.Put.{cased_of}
 use Rattle.ax25_address.proofs.LetterLaws.{trimmed_text}

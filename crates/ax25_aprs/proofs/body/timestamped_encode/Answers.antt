@@ -1,6 +1,5 @@
 -- `ax25_aprs::body::timestamped_encode` meets its contract.
 -- Assumes nothing.
-use borrow.Author.Rules.{rules}
 use mathlib.Core.Path.{refl}
 use lib.ListN.{drop}
 use Rattle.laws.proofs.ListLaws.{from_place}

@@ -1,7 +1,6 @@
 -- `ax25_aprs::field::bit` meets its contract.
 -- Assumes nothing.
 use native.Mathlib.Omega.{arith}
-use borrow.Author.Rules.{rules}
 use Rattle.laws.specs.Bits.{unpack}
 use Rattle.laws.proofs.ByteLaws.{length_unpack}
 use Rattle.ax25_aprs.proofs.ValueLaws.{bit_told}

@@ -1,7 +1,6 @@
 -- `ax25_aprs::latlon::latlon_encode` meets its contract.
 -- Assumes nothing.
 use native.Mathlib.Omega.{arith}
-use borrow.Author.Rules.{rules}
 use mathlib.Core.Path.{refl}
 use mathlib.Core.Bool.{true}
 use lib.ListN.{drop, length-drop}

@@ -1,7 +1,6 @@
 -- `ax25_aprs::latlon::put_around` meets its contract.
 -- Assumes nothing.
 use native.Mathlib.Omega.{arith}
-use borrow.Author.Rules.{rules}
 use Rattle.laws.proofs.WroteLaws.{wrote_then}
 use Prim.Native.Nat.{◌/◌}
 use Rattle.laws.proofs.DigitLaws.{ten_pos, length_digits}

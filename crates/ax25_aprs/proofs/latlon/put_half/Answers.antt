@@ -1,7 +1,6 @@
 -- `ax25_aprs::latlon::put_half` meets its contract.
 -- Assumes nothing.
 use native.Mathlib.Omega.{arith}
-use borrow.Author.Rules.{rules}
 use Rattle.laws.proofs.WroteLaws.{wrote_then}
 use Rattle.ax25_aprs.specs.Place.{half_text}
 use Rattle.ax25_aprs.proofs.PlaceLaws.{dotted_size}

@@ -1,7 +1,6 @@
 -- `ax25_aprs::latlon::put_lat` meets its contract.
 -- Assumes nothing.
 use native.Mathlib.Omega.{arith}
-use borrow.Author.Rules.{rules}
 use lib.ListN.{get_or}
 use Rattle.laws.proofs.WroteLaws.{wrote_then}
 use Rattle.ax25_aprs.specs.LatLon.{lat_bits}

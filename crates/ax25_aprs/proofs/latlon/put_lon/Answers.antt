@@ -1,7 +1,6 @@
 -- `ax25_aprs::latlon::put_lon` meets its contract.
 -- Assumes nothing.
 use native.Mathlib.Omega.{arith}
-use borrow.Author.Rules.{rules}
 use lib.ListN.{get_or}
 use Rattle.laws.proofs.WroteLaws.{wrote_then}
 use Rattle.ax25_aprs.specs.LatLon.{lon_bits}
@@ -16,5 +15,5 @@ push_bfi-requires c =
 pub returns : goal.returns
 unfolding lon_bits
 returns c =
-    rw (← c.lon.ensures, ← c.wide.ensures)
+    rw (← c.lon.ensures, ← c.from.ensures)
     (wrote_then c.push_bfi-p.ensures.wrote (wrote_then c.put_side-q.ensures c.push_bfi.ensures.wrote))

@@ -7,9 +7,6 @@ use Rattle.ax25_aprs.specs.Place.{place_text}
 use Rattle.ax25_aprs.proofs.PlacedLaws.{half_size}
 use Rattle.ax25_aprs.proofs.latlon.put_place.Goals as goal
 
-pub table_of-table-requires : goal.table_of-table-requires
-table_of-table-requires c = (c.requires.0, c.requires.1)
-
 pub put_half-requires : goal.put_half-requires
 put_half-requires c =
     let x = c.args.x in
@@ -18,5 +15,5 @@ put_half-requires c =
 pub returns : goal.returns
 unfolding place_text
 returns c =
-    rw (← c.side_of-north.ensures, ← c.table_of-table.ensures, ← c.side_of-west.ensures, ← c.narrow-symbol.ensures)
+    rw (← c.side_of-north.ensures, ← c.table_of-table.ensures, ← c.side_of-west.ensures)
     (wrote_then c.put_half-p.ensures c.put_half.ensures)

@@ -3,17 +3,10 @@
 use native.Mathlib.Omega.{arith}
 use borrow.Author.Rules.{rules}
 use mathlib.Core.Path.{◌≡◌}
-use mathlib.Core.List.{List}
-use Prim.Native.Nat.{ℕ, ◌+◌, ◌-◌, ◌≤◌}
-use lib.ListN.{length}
 use Rattle.laws.specs.Digits.{digits}
 use Rattle.ax25_aprs.proofs.TextLaws.{digits_first}
-use Rattle.laws.specs.Wrote.{Wrote}
 use Rattle.laws.proofs.WroteLaws.{wrote_none, wrote_then}
 use Rattle.ax25_aprs.proofs.number.put_digits.Goals as goal
-
-pub loop-left-init : goal.loop-left-init
-loop-left-init c = (search rules, search rules, search rules, λ e r h. h)
 
 pub loop-left-preserved : goal.loop-left-preserved
 loop-left-preserved c =
@@ -21,13 +14,12 @@ loop-left-preserved c =
     let left = c.loop-left.left in
     let put = c.byte-next in (
       search rules,
-      search rules,
       omega (arith, put.ensures.next_is),
-      λ e r h. c.loop-left.invariant.3 e r (rw (digits_first left a.v (omega arith), ← c.digit.ensures) (wrote_then put.ensures h)),
+      λ e r h. c.loop-left.invariant.2 e r (rw (digits_first left a.v (omega arith), ← c.digit.ensures) (wrote_then put.ensures h)),
     )
 
 pub returns : goal.returns
 unfolding digits
 returns c =
     let none : c.loop-left.left ≡ 0 = omega arith in
-    c.loop-left.invariant.3 c.loop-left.out c.loop-left.next (rw none wrote_none)
+    c.loop-left.invariant.2 c.loop-left.out c.loop-left.next (rw none wrote_none)

@@ -1,22 +1,13 @@
 -- `ax25_aprs::runs::calm` meets its contract. Where no byte of the first k may stop the run, it goes on there.
 -- Assumes nothing.
-use borrow.Author.Rules.{rules}
-use borrow.Author.Tests.{not-true}
-use native.Mathlib.Nat.{add-zero}
 use native.Mathlib.Omega.{arith}
 use mathlib.Core.Path.{◌≡◌, sym, ap, ◌∙◌}
-use mathlib.Core.Bool.{false}
-use Prim.Native.Nat.{ℕ, ◌+◌, ◌-◌, ◌≤◌}
+use Prim.Native.Nat.{ℕ, ◌+◌}
 use lib.ListN.{drop}
 use Rattle.laws.proofs.Cases.{or_left, or_right}
 use Rattle.ax25_aprs.specs.Runs.{plain_len}
 use Rattle.ax25_aprs.proofs.RunLaws.{run_calm}
 use Rattle.ax25_aprs.proofs.runs.calm.Goals as goal
-
-pub loop-k-init : goal.loop-k-init
-loop-k-init c =
-    let a = c.args in
-    (search rules, λ e. omega (arith, ap (λ (j : ℕ). plain_len (drop j a.s.now)) (add-zero a.i)))
 
 pub loop-k-preserved : goal.loop-k-preserved
 loop-k-preserved c =
@@ -25,12 +16,7 @@ loop-k-preserved c =
     let k = c.loop-k.k in
     let stop = c.loop-k.stop in
     let r = c.may_stop-stop.result in
-    let next : a.i + k + 1 ≡ a.i + (k + 1) = omega arith in (
-      search rules,
-      λ e.
-          let here = run_calm s (a.i + k) (omega arith) (sym c.may_stop-stop.ensures ∙ or_right stop r e) in
-          omega (arith, c.loop-k.invariant.1 (or_left stop r e), here, ap (λ (j : ℕ). plain_len (drop j s)) next),
-    )
-
-pub returns : goal.returns
-returns c = λ e. omega (arith, c.loop-k.invariant.1 (not-true c.loop-k.stop e))
+    let next : a.i + k + 1 ≡ a.i + (k + 1) = omega arith in
+    λ e.
+    let here = run_calm s (a.i + k) (omega arith) (sym c.may_stop-stop.ensures ∙ or_right stop r e) in
+    omega (arith, c.loop-k.invariant (or_left stop r e), here, ap (λ (j : ℕ). plain_len (drop j s)) next)

@@ -1,12 +1,9 @@
 -- `ax25_aprs::runs::plain` meets its contract. Before i all is plain.
 -- Assumes nothing.
-use borrow.Author.Rules.{rules}
-use native.Mathlib.Omega.{arith}
-use mathlib.Core.Path.{◌≡◌, ap}
-use Prim.Native.Nat.{ℕ, ◌+◌, ◌-◌, ◌≤◌}
+use mathlib.Core.Path.{◌≡◌}
+use Prim.Native.Nat.{◌+◌, ◌-◌, ◌≤◌}
 use lib.ListN.{length, drop}
 use Rattle.ax25_aprs.specs.Runs.{plain_len}
-use Rattle.ax25_aprs.proofs.RunLaws.{run_le, run_later}
 use Rattle.ax25_aprs.proofs.runs.plain.Given as goal
 
 abbrev pub invariant-loop-i : goal.invariant-loop-i

@@ -1,16 +1,10 @@
 -- `ax25_aprs::runs::plain_to` meets its contract. From the first place to i all is plain.
 -- Assumes nothing.
-use borrow.Author.Rules.{rules}
-use native.Mathlib.Omega.{arith}
-use mathlib.Core.Path.{◌≡◌, sym, ◌∙◌}
-use Prim.Native.Nat.{◌+◌, ◌-◌, ◌≤◌}
+use mathlib.Core.Path.{◌≡◌}
+use Prim.Native.Nat.{◌+◌}
 use lib.ListN.{drop}
 use Rattle.ax25_aprs.specs.Runs.{plain_len}
-use Rattle.ax25_aprs.proofs.RunLaws.{run_high, run_word, run_next}
 use Rattle.ax25_aprs.proofs.runs.plain_to.Given as goal
 
 abbrev pub invariant-loop-i : goal.invariant-loop-i
-invariant-loop-i l = (l.from ≤ l.i) × (l.i ≤ l.end) × (l.i + plain_len (drop l.i l.s) ≡ l.from + plain_len (drop l.from l.s))
-
-abbrev pub decreases-loop-i : goal.decreases-loop-i
-decreases-loop-i l = l.end - l.i
+invariant-loop-i l = l.i + plain_len (drop l.i l.s) ≡ l.from + plain_len (drop l.from l.s)

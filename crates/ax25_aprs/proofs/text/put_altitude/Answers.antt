@@ -1,11 +1,9 @@
 -- `ax25_aprs::text::put_altitude` meets its contract.
 -- Assumes nothing.
 use native.Mathlib.Omega.{arith}
-use borrow.Author.Rules.{rules}
 use mathlib.Core.Path.{◌≡◌}
 use Prim.Native.Nat.{min}
 use lib.ListN.{length, drop}
-use borrow.Author.Tests.{not-true, not-false}
 use Rattle.laws.specs.Bits.{unpack}
 use Rattle.ax25_aprs.proofs.TextLaws.{altitude_number, altitude_no}
 use Rattle.laws.proofs.WroteLaws.{wrote_none}
@@ -21,6 +19,6 @@ pub returns : goal.returns
 returns c =
     let a = c.args in
     let b = drop a.at (unpack a.s.now) in
-    let n = c.least-n in
+    let n = c.min-n in
     let e : n.result ≡ min 14 (length b) = omega (arith, n.ensures, c.remaining_at.ensures, bits_left a.s.now a.at) in
     rw (c.if-not-position.false, altitude_number b, ← take_min 14 b, ← e, ← c.value.ensures) c.put_padded.ensures

@@ -1,7 +1,6 @@
 -- `ax25_aprs::text::put_code` meets its contract: each arm is a range of codes.
 -- Assumes nothing.
 use native.Mathlib.Omega.{arith}
-use borrow.Author.Rules.{rules}
 use lib.ListN.{drop}
 use Rattle.laws.specs.Bits.{unpack}
 use Rattle.ax25_aprs.proofs.WordLaws.{word_size}
@@ -15,7 +14,7 @@ put_altitude-requires c = omega (arith, c.put_word-next.ensures.next_is, word_si
 pub returns-in-0 : goal.returns-in-0
 returns-in-0 c =
     let a = c.args in
-    rw (code_zero a.position a.code (drop a.at (unpack a.s.now)) c.in-0.is) wrote_none
+    rw (code_zero a.position a.code (drop a.at (unpack a.s.now)) (omega arith)) wrote_none
 
 pub returns-in-1 : goal.returns-in-1
 returns-in-1 c =
@@ -28,15 +27,12 @@ returns-in-2-to-9 c =
     let a = c.args in
     rw (code_word a.position a.code (drop a.at (unpack a.s.now)) (omega arith) (omega arith)) c.put_word.ensures
 
-pub returns-in-10-to-31 : goal.returns-in-10-to-31
-returns-in-10-to-31 c =
-    let a = c.args in
-    rw (code_none a.position a.code (drop a.at (unpack a.s.now)) (omega arith) (omega arith)) wrote_none
-
-pub returns-in-32-to-127 : goal.returns-in-32-to-127
-returns-in-32-to-127 c =
+pub returns-in_default : goal.returns-in_default
+returns-in_default c =
     let a = c.args in
     rw (code_self a.position a.code (drop a.at (unpack a.s.now)) (omega arith)) c.byte.ensures
 
-pub returns-in_default : goal.returns-in_default
-returns-in_default c = absurd (omega arith)
+pub returns-in-0-2 : goal.returns-in-0-2
+returns-in-0-2 c =
+    let a = c.args in
+    rw (code_none a.position a.code (drop a.at (unpack a.s.now)) (omega arith) (omega arith)) wrote_none

@@ -1,6 +1,5 @@
 -- `ax25_aprs::text::put_selves` meets its contract.
 -- Assumes nothing.
-use borrow.Author.Rules.{rules}
 use native.Mathlib.Omega.{arith}
 use lib.ListN.{drop}
 use Rattle.laws.specs.Bits.{unpack}

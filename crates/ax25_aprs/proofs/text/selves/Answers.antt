@@ -1,24 +1,14 @@
 -- `ax25_aprs::text::selves` meets its contract. The first n codes stand for themselves.
 -- Assumes nothing.
 use borrow.Author.Rules.{rules}
-use borrow.Author.Tests.{not-false}
-use native.Mathlib.Omega.{arith}
 use mathlib.Core.Path.{◌≡◌, sym}
-use Prim.Native.Nat.{◌+◌, ◌-◌, ◌*◌, ◌/◌, ◌≤◌}
-use lib.ListN.{length, take, drop}
+use Prim.Native.Nat.{◌+◌, ◌*◌}
+use lib.ListN.{drop}
 use lib.Seq.{drop-drop}
 use Rattle.laws.specs.Bits.{unpack}
 use Rattle.ax25_aprs.specs.Selves.{Selves}
 use Rattle.ax25_aprs.proofs.SelfLaws.{selves_front, selves_add}
 use Rattle.ax25_aprs.proofs.text.selves.Goals as goal
-
-pub loop-i-init : goal.loop-i-init
-loop-i-init c = (search rules, search rules, λ k h. absurd (omega arith))
-
-pub returns-then-not-all_selves : goal.returns-then-not-all_selves
-returns-then-not-all_selves c =
-    let held = c.loop-i.invariant in
-    (held.1, held.2)
 
 pub loop-i-preserved : goal.loop-i-preserved
 loop-i-preserved c =
@@ -28,10 +18,5 @@ loop-i-preserved c =
     let u = unpack a.s.now in
     let at_block : a.at + n * 7 ≡ c.loop-i.i = sym c.loop-i.invariant.0 in
     let more : Selves 8 (drop (n * 7) b) =
-    selves_front 8 (drop (n * 7) b) (rw (drop-drop (n * 7) a.at u, at_block, ← c.block.ensures) (c.all_selves.ensures (c.if-not-all_selves.false))) in
+    selves_front 8 (drop (n * 7) b) (rw (drop-drop (n * 7) a.at u, at_block, ← c.block.ensures) (c.all_selves.ensures (c.if-all_selves.true))) in
     (search rules, search rules, selves_add n 8 b c.loop-i.invariant.2 more)
-
-pub returns : goal.returns
-returns c =
-    let held = c.loop-i.invariant in
-    (held.1, held.2)

@@ -1,15 +1,10 @@
 -- `ax25_aprs::text::selves` meets its contract. The first n codes stand for themselves.
 -- Assumes nothing.
-use borrow.Author.Rules.{rules}
-use borrow.Author.Tests.{not-false}
-use native.Mathlib.Omega.{arith}
-use mathlib.Core.Path.{◌≡◌, sym}
-use Prim.Native.Nat.{◌+◌, ◌-◌, ◌*◌, ◌/◌, ◌≤◌}
-use lib.ListN.{length, take, drop}
-use lib.Seq.{drop-drop}
+use mathlib.Core.Path.{◌≡◌}
+use Prim.Native.Nat.{◌+◌, ◌-◌, ◌*◌, ◌≤◌}
+use lib.ListN.{length, drop}
 use Rattle.laws.specs.Bits.{unpack}
 use Rattle.ax25_aprs.specs.Selves.{Selves}
-use Rattle.ax25_aprs.proofs.SelfLaws.{selves_front, selves_add}
 use Rattle.ax25_aprs.proofs.text.selves.Given as goal
 
 abbrev pub invariant-loop-i : goal.invariant-loop-i

@@ -10,8 +10,8 @@ use Rattle.ax25_body.proofs.BodyLaws.{filled_long, filled_short}
 use borrow.Author.Rules.{rules}
 use Rattle.ax25_body.proofs.body.put_filled.Goals as goal
 
-pub returns-then-n-ge9 : goal.returns-then-n-ge9
-returns-then-n-ge9 c =
+pub returns-then-c-ge9 : goal.returns-then-c-ge9
+returns-then-c-ge9 c =
     let a = c.args in
     let p = c.put_text-p in
     let h : 9 ≤ length (text_of a.c) = omega (arith, p.ensures.wrote.next_is, p.ensures.value) in record { wrote = rw (filled_long 9 (text_of a.c) h) p.ensures.wrote; upper_bound = omega (arith, p.ensures.value) }

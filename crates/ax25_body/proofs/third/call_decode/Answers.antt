@@ -9,25 +9,27 @@ use Rattle.ax25_token.specs.Token.{read_token}
 use Rattle.ax25_token.proofs.CallLaws.{token_next, token_nothing}
 use Rattle.ax25_body.proofs.ThirdLaws.{passes, passes_none}
 use borrow.Author.Rules.{rules}
+use Prim.Native.Nat.{◌≤◌}
 use Rattle.ax25_body.proofs.third.call_decode.Goals as goal
 
-pub returns-in_default : goal.returns-in_default
-returns-in_default c =
+pub returns-in_err-call : goal.returns-in_err-call
+returns-in_err-call c =
     let a = c.args in
     let u = unpack a.s.now in
-    let d = c.token_decode-d in
-    passes_none _ _ _ _ _ _ (token_nothing u (read_token a.mended a.l (drop a.at u)) d.result d.ensures.0 c.in_default.is)
+    let d = c.token_decode in
+    rw c.from_residual.ensures (passes_none _ _ _ _ _ _ (token_nothing u (read_token a.mended a.l (drop a.at u)) d.result d.ensures.0 c.in_err-call.was))
 
 pub returns : goal.returns
 returns c =
     let a = c.args in
     let u = unpack a.s.now in
-    let d = c.token_decode-d in
+    let d = c.token_decode in
     let w = c.put_text.ensures in
+    let few : c.in_ok-call.call.len ≤ 10 = rw c.in_ok-call.was at d.ensures.1 in
     passes _ _ _ _ _ _ _ _
     record {
-      text = text_of d.result.call;
-      is = token_next u (read_token a.mended a.l (drop a.at u)) d.result d.ensures.0 _ c.in-Ok.is;
-      short = omega (arith, d.ensures.1, w.wrote.next_is, w.value);
+      text = text_of c.in_ok-call.call;
+      is = token_next u (read_token a.mended a.l (drop a.at u)) d.result d.ensures.0 _ _ c.in_ok-call.was;
+      short = omega (arith, few, w.wrote.next_is, w.value);
       wrote = wrote_then c.copy-i.ensures w.wrote;
     }

@@ -1,6 +1,5 @@
 -- `bits_write::words::power` meets its contract: nothing is shifted out.
 -- Assumes nothing.
-use borrow.Author.Rules.{rules}
 use native.Mathlib.Omega.{arith}
 use native.Mathlib.Nat.{one-mul}
 use mathlib.Core.Path.{◌∙◌}

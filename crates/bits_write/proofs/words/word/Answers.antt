@@ -1,6 +1,5 @@
 -- `bits_write::words::word` meets its contract.
 -- Assumes nothing.
-use native.Mathlib.Omega.{arith}
 use Rattle.bits_write.proofs.WordLaws.{bytes_join}
 use Rattle.bits_write.proofs.words.word.Goals as goal
 

@@ -7,13 +7,13 @@ use Rattle.receiver.specs.declared.Reassembler.{Reassembler}
 use Rattle.kept.specs.Keep.{refusal_in}
 use Rattle.kept.proofs.Slot.refusal.Goals as goal
 
-pub returns-then-name_ok : goal.returns-then-name_ok
+pub returns-then-not-name_ok : goal.returns-then-not-name_ok
 unfolding refusal_in
-returns-then-name_ok c =
-    c.refusal.ensures
-    ∙ ap (λ (x : Reassembler). refusal_of x.state 5000) c.receiver-receiver.ensures
-    ∙ sym (pick_true _ 0 (sym c.name_ok.ensures ∙ c.if-name_ok.true))
+returns-then-not-name_ok c = sym (pick_false _ 0 (sym c.name_ok.ensures ∙ c.if-not-name_ok.true))
 
 pub returns : goal.returns
 unfolding refusal_in
-returns c = sym (pick_false _ 0 (sym c.name_ok.ensures ∙ c.if-name_ok.false))
+returns c =
+    c.refusal.ensures
+    ∙ ap (λ (x : Reassembler). refusal_of x.state 5000) c.from-receiver.ensures
+    ∙ sym (pick_true _ 0 (sym c.name_ok.ensures ∙ c.if-not-name_ok.false))

@@ -1,5 +1,7 @@
 -- `kiss::summary` meets its contract.
 -- Assumes nothing.
+use Rattle.refusals.specs.declared.Refusal.TheVariants as refusal
+use Rattle.refusals.proofs.OutcomeLaws.{exit_missing}
 use borrow.Author.Rules.{rules}
 use mathlib.Core.Path.{sym, ap, ◌∙◌}
 use Rattle.ax25_address.specs.Record.{found_of}
@@ -25,10 +27,11 @@ pub returns-in_err-found : goal.returns-in_err-found
 returns-in_err-found c =
     let a = c.args in
     let p = sym c.parse.ensures ∙ ap found_of c.in_err-found.ensures.ok_part in
-    of_short a.command a.«data».now c.if-command-gt2.false c.if-data-gt-MAX_DATA.false c.if-command-eq2.false p
+    rw (exit_missing refusal.Short c.in_err-found.ensures.value c.in_err-found.ensures.ok_part _ c.from_residual.ensures.1)
+    (of_short a.command a.«data».now c.if-command-gt2.false c.if-data-gt-MAX_DATA.false c.if-command-eq2.false p)
 
 pub returns : goal.returns
 returns c =
     let a = c.args in
     let p = sym c.parse.ensures ∙ ap found_of c.in_ok-found.ensures.ok_part in
-    of_found a.command a.«data».now c.if-command-gt2.false c.if-data-gt-MAX_DATA.false c.if-command-eq2.false _ _ p c.ui_control-ui.ensures
+    of_found a.command a.«data».now c.if-command-gt2.false c.if-data-gt-MAX_DATA.false c.if-command-eq2.false _ _ p c.ui_control.ensures

@@ -7,7 +7,7 @@ use native.Mathlib.Omega.{arith}
 use lib.ListN.{length}
 use lib.Seq.{sets}
 use borrow.Rule.Slice.PartMut.{put_mid}
-use Rattle.frame.proofs.PartLaws.{put_sets}
+use Rattle.frame.proofs.PartLaws.{put_copied}
 use Rattle.receiver.specs.Join.{base_of}
 use Rattle.receiver.proofs.JoinLaws.{grow_many, grow_long, grow_more, grow_last, base_max}
 use Rattle.receiver.proofs.Joiner.grow.Goals as goal
@@ -19,11 +19,6 @@ too_long base n l h = omega arith
 
 long_enough : (base n : ℕ) → base ≤ 5000 → n ≤ 5000 - base → base + n ≤ 5000
 long_enough base n l h = omega arith
-
--- the tail is copied to its place
-stored : (base : ℕ) (s part tail : List ℕ) → part ≡ tail → base + length tail ≤ length s
-    → put_mid base (base + length tail - base) s part ≡ sets s base tail
-stored base s part tail e h = rw e (put_sets base (base + length tail - base) s tail (omega arith) (omega arith))
 
 pub returns-then-self-ge-RX_MAX_FRAGMENTS : goal.returns-then-self-ge-RX_MAX_FRAGMENTS
 returns-then-self-ge-RX_MAX_FRAGMENTS c =
@@ -39,7 +34,7 @@ pub returns-then-first-ge128 : goal.returns-then-first-ge128
 returns-then-first-ge128 c =
     let a = c.args in
     let base : c.max-base.result ≡ base_of a.self.held = c.max-base.ensures ∙ base_max a.self.held in
-    let copied = stored c.max-base.result c.head.new.store c.copy_from_slice.new.self a.tail.now c.copy_from_slice.ensures.after (omega (arith, c.head.auto.store)) in
+    let copied = put_copied c.max-base.result c.head.new.store c.copy_from_slice.new.self a.tail.now c.copy_from_slice.ensures.after (omega (arith, c.head.auto.store)) in
     rw (copied, c.head.ensures, base)
     (sym (grow_more _ _ _ _ c.if-self-ge-RX_MAX_FRAGMENTS.false (rw base at (long_enough _ _ (omega (arith, c.max-base.ensures)) c.if-base-tail.false)) c.if-first-ge128.true))
 
@@ -47,7 +42,7 @@ pub returns : goal.returns
 returns c =
     let a = c.args in
     let base : c.max-base.result ≡ base_of a.self.held = c.max-base.ensures ∙ base_max a.self.held in
-    let copied = stored c.max-base.result c.head.new.store c.copy_from_slice.new.self a.tail.now c.copy_from_slice.ensures.after (omega (arith, c.head.auto.store)) in
+    let copied = put_copied c.max-base.result c.head.new.store c.copy_from_slice.new.self a.tail.now c.copy_from_slice.ensures.after (omega (arith, c.head.auto.store)) in
     c.finish.ensures
     ∙ rw (copied, c.head.ensures, base)
     (sym (grow_last _ _ _ _ c.if-self-ge-RX_MAX_FRAGMENTS.false (rw base at (long_enough _ _ (omega (arith, c.max-base.ensures)) c.if-base-tail.false)) c.if-first-ge128.false))
