@@ -69,7 +69,7 @@ fn calls(line: &[u8], mut receiver: Reassembler) -> Outcome {
 
 // One call: r is a reset, p:FIELD:HEX=ANSWER a push, j:N:HEX=ANSWER a join.
 fn call(receiver: Reassembler, space: &mut [u8], text: &[u8]) -> Step {
-    if check::same(text, b"r") {
+    if text == b"r".as_slice() {
         return Step {
             outcome: Outcome::Equal,
             receiver: receiver.reset(),

@@ -214,7 +214,7 @@ module _ (message : List ℕ) (field mask : ℕ) (f : field_ok field ≡ true) (
       record {
         field_ok_holds = f;
         mask_ok_holds = m;
-        Some = omega (arith, field_low field f);
+        some = omega (arith, field_low field f);
         short = omega (arith, field_high field f);
         first_low = first_low;
         room = omega (arith, takes_three, most_three mask (mask_top mask m));

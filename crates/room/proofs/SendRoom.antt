@@ -5,8 +5,8 @@ use mathlib.Core.List.{List}
 use Prim.Native.Nat.{ℕ, zero, suc, ◌+◌, ◌≤◌, ◌<◌}
 use native.Mathlib.Omega.{arith}
 use lib.ListN.{length}
-use Rattle.refusals.specs.declared.Answer.{Answer}
-use Rattle.refusals.specs.declared.Answer.TheVariants.{Refused, Bytes}
+use Rattle.std.proofs.Common.{Result, Ok, Err}
+use Rattle.refusals.specs.declared.Refusal.{Refusal}
 use Rattle.refusals.specs.Outcome.{Outcome, refused, answer, outcome_of, left, into}
 use Rattle.refusals.proofs.LimitLaws.{field_low, field_high}
 use Rattle.refusals.proofs.OutcomeLaws.{answer_not, same_answer_lem, same_refusal, accepted_is, told_refusal}
@@ -49,17 +49,17 @@ framed_fits field d control marker v e =
     (omega (arith, ap length is, frame_length field d control marker ok.fits), field_high field ok.ok)
 
 -- `fragment` and `build_frame`, as their contracts have them: the answer r, and t in the lent output afterwards
-never_six : (o : Outcome (List ℕ)) → NotShort o → (out t : List ℕ) (r : Answer) → ((v : List ℕ) → o ≡ answer v → length v ≤ length out) → left (outcome_of r) t ≡ into o out
+never_six : (o : Outcome (List ℕ)) → NotShort o → (out t : List ℕ) (r : Result ℕ Refusal) → ((v : List ℕ) → o ≡ answer v → length v ≤ length out) → left (outcome_of r) t ≡ into o out
     → NotShort (outcome_of r)
-never_six o own out t (Refused n) few e s = own (told_refusal out t o (Refused n) n refl e few ∙ ap refused (same_refusal s))
-never_six o own out t (Bytes n) few e s = answer_not s
+never_six o own out t (Err x) few e s = own (told_refusal out t o (Err x) x refl e few ∙ ap refused (same_refusal s))
+never_six o own out t (Ok n) few e s = answer_not s
 
-pub fragment_answers : (message : List ℕ) (field mask k : ℕ) (out t : List ℕ) (r : Answer) → left (outcome_of r) t ≡ into (send_of message field mask k) out → field ≤ length out
+pub fragment_answers : (message : List ℕ) (field mask k : ℕ) (out t : List ℕ) (r : Result ℕ Refusal) → left (outcome_of r) t ≡ into (send_of message field mask k) out → field ≤ length out
     → NotShort (outcome_of r)
 fragment_answers message field mask k out t r e h =
     never_six (send_of message field mask k) (not_short is_not_short refl (send_own message field mask k)) out t r (λ v q. omega (arith, sent_fits message field mask k v q)) e
 
-pub frame_answers : (field : ℕ) (d : List ℕ) (control : Control) (marker : ℕ) (out t : List ℕ) (r : Answer) → left (outcome_of r) t ≡ into (build_of field d control marker) out
+pub frame_answers : (field : ℕ) (d : List ℕ) (control : Control) (marker : ℕ) (out t : List ℕ) (r : Result ℕ Refusal) → left (outcome_of r) t ≡ into (build_of field d control marker) out
     → field + 3 ≤ length out → NotShort (outcome_of r)
 frame_answers field d control marker out t r e h =
     never_six (build_of field d control marker) (not_short is_not_short refl (build_own field d control marker)) out t r (λ v q. omega (arith, framed_fits field d control marker v q)) e

@@ -3,7 +3,7 @@
 
 ghost use Rattle.std.specs.Prelude.{◌≡◌, true, false, List, ℕ};
 ghost use Rattle.crc.specs.Crc.{crc_of};
-ghost use Rattle.refusals.specs.Outcome.{refused, answer, outcome_of, into};
+ghost use Rattle.refusals.specs.Outcome.{outcome_of, into};
 ghost use Rattle.sender.specs.Send.{count_for, send_of};
 ghost use Rattle.frame.specs.Frame.{build_of};
 ghost use Rattle.receiver.specs.Join.{heard_of};
@@ -11,20 +11,19 @@ ghost use Rattle.receiver.specs.New.{new_of};
 ghost use Rattle.receiver.specs.Stored.{receiver_of, stored_of};
 ghost use Rattle.receiver.specs.Tally.{cause_number, join_tallied, push_tallied, reset_tallied};
 ghost use Rattle.kiss.specs.Codec.{code_of, summary_of, decode_of};
-ghost use Rattle.kiss.specs.Told.{code_into, decoded_of, decode_into};
+ghost use Rattle.kiss.specs.Told.{encoded_of, code_into, summarised_of, decoded_of, decode_into};
 ghost use Rattle.preview.specs.Preview.{preview_of};
 ghost use Rattle.kept.specs.Keep.{none_kept, keep_of, return_of, drop_of};
 ghost use Rattle.kept.specs.Told.{to_keeping_with, to_dropped};
-ghost use Rattle.xara.specs.Told.{control_of, to_answer, to_answer_with, to_fresh, to_fresh_with, to_pushed, to_pushed_with, to_encoded_with, to_preview, to_summary, to_decoded, to_decoded_with};
+ghost use Rattle.xara.specs.Told.{control_of, to_answer, to_answer_with, to_fresh, to_fresh_with, to_pushed, to_pushed_with, to_encoded, to_encoded_with, to_preview, to_summary, to_decoded, to_decoded_with};
 
-use ax25_address::classify::code;
+use ax25_address::classify::AprsType;
 use frame::Control;
-use kept::{Keeping, Kept, Returned};
-use kiss::{Decoded, Encoded, Summarised};
-use preview::Previewed;
-use receiver::{Cause, Fresh, Push, Pushed, Reassembler, Stored, Tallies};
-use refusals::Answer;
-use sender::Counted;
+use kept::{Keeping, Kept};
+use kiss::Facts;
+use preview::Price;
+use receiver::{Cause, Push, Pushed, Reassembler, Stored, Tallies};
+use refusals::Refusal;
 
 // ok with a length or a count, or a refusal's number.
 #[repr(C)]
@@ -106,33 +105,147 @@ pub struct XaraDecoded {
     pub length: usize,
 }
 
-fn with_refusal(refusal: u8) -> XaraAnswer
-    ensures { result ≡ to_answer (refused refusal) }
-{
-    XaraAnswer {
-        ok: false,
-        refusal,
-        value: 0,
+impl From<Result<usize, Refusal>> for XaraAnswer {
+    ghost from_gives = { λ answer x. x ≡ to_answer (outcome_of answer) };
+
+    fn from(answer: Result<usize, Refusal>) -> XaraAnswer {
+        match answer {
+            Ok(value) => XaraAnswer {
+                ok: true,
+                refusal: 0,
+                value,
+            },
+            Err(refusal) => XaraAnswer {
+                ok: false,
+                refusal: u8::from(refusal),
+                value: 0,
+            },
+        }
     }
 }
 
-fn with_value(value: usize) -> XaraAnswer
-    ensures { result ≡ to_answer (answer value) }
-{
-    XaraAnswer {
-        ok: true,
-        refusal: 0,
-        value,
+impl From<XaraControl> for Control {
+    ghost from_gives = { λ control x. x ≡ control_of control };
+
+    fn from(control: XaraControl) -> Control {
+        Control {
+            reply: control.reply,
+            compressed: control.compressed != 0,
+            hint: control.hint,
+        }
     }
 }
 
-// The answer of a call that writes bytes.
-fn said(answer: Answer) -> XaraAnswer
-    ensures { result ≡ to_answer (outcome_of answer) }
-{
-    match answer {
-        Answer::Refused(n) => with_refusal(n),
-        Answer::Bytes(n) => with_value(n),
+// A refusal stands beside a receiver of zeros.
+impl From<Result<Reassembler, Refusal>> for XaraFresh {
+    ghost from_gives = { λ answer x. x ≡ to_fresh (outcome_of answer) };
+
+    fn from(answer: Result<Reassembler, Refusal>) -> XaraFresh {
+        match answer {
+            Ok(receiver) => XaraFresh {
+                ok: true,
+                refusal: 0,
+                receiver: Stored::from(receiver),
+            },
+            Err(refusal) => XaraFresh {
+                ok: false,
+                refusal: u8::from(refusal),
+                receiver: Stored {
+                    held: 0,
+                    nfrag: 0,
+                    count: 0,
+                    crc_mask: 0,
+                    overflow: 0,
+                    tallies: Tallies::NONE,
+                },
+            },
+        }
+    }
+}
+
+impl From<Result<(usize, AprsType), Refusal>> for XaraEncoded {
+    ghost from_gives = { λ answer x. x ≡ to_encoded (encoded_of answer) };
+
+    fn from(answer: Result<(usize, AprsType), Refusal>) -> XaraEncoded {
+        match answer {
+            Ok((length, aprs_type)) => XaraEncoded {
+                ok: true,
+                refusal: 0,
+                aprs_type: u8::from(aprs_type),
+                length,
+            },
+            Err(refusal) => XaraEncoded {
+                ok: false,
+                refusal: u8::from(refusal),
+                aprs_type: 0,
+                length: 0,
+            },
+        }
+    }
+}
+
+impl From<Result<Price, Refusal>> for XaraPreview {
+    ghost from_gives = { λ answer x. x ≡ to_preview (outcome_of answer) };
+
+    fn from(answer: Result<Price, Refusal>) -> XaraPreview {
+        match answer {
+            Ok(price) => XaraPreview {
+                ok: true,
+                refusal: 0,
+                length: price.length,
+                count: price.count,
+            },
+            Err(refusal) => XaraPreview {
+                ok: false,
+                refusal: u8::from(refusal),
+                length: 0,
+                count: 0,
+            },
+        }
+    }
+}
+
+impl From<Result<Facts, Refusal>> for XaraSummary {
+    ghost from_gives = { λ answer x. x ≡ to_summary (summarised_of answer) };
+
+    fn from(answer: Result<Facts, Refusal>) -> XaraSummary {
+        match answer {
+            Ok(facts) => XaraSummary {
+                ok: true,
+                refusal: 0,
+                aprs_type: u8::from(facts.aprs_type),
+                ui: facts.ui,
+                digis: facts.digis,
+            },
+            Err(refusal) => XaraSummary {
+                ok: false,
+                refusal: u8::from(refusal),
+                aprs_type: 0,
+                ui: false,
+                digis: 0,
+            },
+        }
+    }
+}
+
+impl From<Result<(u8, usize), Refusal>> for XaraDecoded {
+    ghost from_gives = { λ answer x. x ≡ to_decoded (decoded_of answer) };
+
+    fn from(answer: Result<(u8, usize), Refusal>) -> XaraDecoded {
+        match answer {
+            Ok((command, length)) => XaraDecoded {
+                ok: true,
+                refusal: 0,
+                command,
+                length,
+            },
+            Err(refusal) => XaraDecoded {
+                ok: false,
+                refusal: u8::from(refusal),
+                command: 0,
+                length: 0,
+            },
+        }
     }
 }
 
@@ -168,84 +281,35 @@ fn copied(receiver: Stored) -> Stored
 fn heard(came: Stored, pushed: Pushed) -> XaraPushed
     ensures { (store : List ℕ) → result ≡ to_pushed came (heard_of pushed.answer store) pushed.receiver }
 {
-    let answer = pushed.answer;
-    let left = pushed.receiver;
-    let receiver = Stored::of(left);
-    match answer {
-        Push::Refused(refusal) => XaraPushed {
+    let receiver = Stored::from(pushed.receiver);
+    match pushed.answer {
+        Err(refusal) => XaraPushed {
             kind: 0,
-            refusal,
+            refusal: u8::from(refusal),
             cause: 0,
             length: 0,
             receiver: copied(came),
         },
-        Push::Dropped(cause) => XaraPushed {
+        Ok(Push::Dropped(cause)) => XaraPushed {
             kind: 1,
             refusal: 0,
             cause: cause_number(cause),
             length: 0,
             receiver,
         },
-        Push::More => XaraPushed {
+        Ok(Push::More) => XaraPushed {
             kind: 2,
             refusal: 0,
             cause: 0,
             length: 0,
             receiver,
         },
-        Push::Done(length) => XaraPushed {
+        Ok(Push::Done(length)) => XaraPushed {
             kind: 3,
             refusal: 0,
             cause: 0,
             length,
             receiver,
-        },
-    }
-}
-
-// A refusal's number beside a receiver of zeros.
-fn no_receiver(refusal: u8) -> XaraFresh
-    ensures { result ≡ to_fresh (refused refusal) }
-{
-    XaraFresh {
-        ok: false,
-        refusal,
-        receiver: Stored {
-            held: 0,
-            nfrag: 0,
-            count: 0,
-            crc_mask: 0,
-            overflow: 0,
-            tallies: Tallies {
-                offered: 0,
-                more: 0,
-                done: 0,
-                wrong_length: 0,
-                no_fragment: 0,
-                overflow: 0,
-                limit: 0,
-                check: 0,
-            },
-        },
-    }
-}
-
-// What a decoding answers.
-fn given(decoded: Decoded) -> XaraDecoded
-    ensures { result ≡ to_decoded (decoded_of decoded) }
-{
-    match decoded {
-        Decoded::Refused(refusal) => XaraDecoded {
-            ok: false,
-            refusal,
-            command: 0,
-            length: 0,
-        },
-        Decoded::Bytes(command, length) => XaraDecoded {
-            ok: true,
-            refusal: 0,
-            command,
-            length,
         },
     }
 }
@@ -263,10 +327,7 @@ pub extern "C" fn xara_crc16_genibus(data: &[u8]) -> u16
 pub extern "C" fn xara_count_for_field(total: usize, field: usize) -> XaraAnswer
     ensures { result ≡ to_answer (count_for total field) }
 {
-    match sender::count_for_field(total, field) {
-        Counted::Refused(n) => with_refusal(n),
-        Counted::Count(n) => with_value(n),
-    }
+    XaraAnswer::from(sender::count_for_field(total, field))
 }
 
 // Fragment k of a message, counted from 0.
@@ -280,7 +341,7 @@ pub extern "C" fn xara_fragment(
 ) -> XaraAnswer
     ensures { (result, out.new) ≡ to_answer_with (into (send_of message.now field mask k) out.old) }
 {
-    said(sender::fragment(message, field, mask, k, out))
+    XaraAnswer::from(sender::fragment(message, field, mask, k, out))
 }
 
 // The frame of a fragment.
@@ -294,12 +355,13 @@ pub extern "C" fn xara_build_frame(
 ) -> XaraAnswer
     ensures { (result, out.new) ≡ to_answer_with (into (build_of field «data».now (control_of control) marker) out.old) }
 {
-    let control = Control {
-        reply: control.reply,
-        compressed: control.compressed != 0,
-        hint: control.hint,
-    };
-    said(frame::build_frame(field, data, control, marker, out))
+    XaraAnswer::from(frame::build_frame(
+        field,
+        data,
+        Control::from(control),
+        marker,
+        out,
+    ))
 }
 
 // A receiver that holds nothing, its tallies 0.
@@ -307,14 +369,7 @@ pub extern "C" fn xara_build_frame(
 pub extern "C" fn xara_receiver_new(crc_mask: u8) -> XaraFresh
     ensures { result ≡ to_fresh (new_of crc_mask) }
 {
-    match Reassembler::with_crc_mask(crc_mask) {
-        Fresh::Refused(refusal) => no_receiver(refusal),
-        Fresh::Ready(receiver) => XaraFresh {
-            ok: true,
-            refusal: 0,
-            receiver: Stored::of(receiver),
-        },
-    }
+    XaraFresh::from(Reassembler::with_crc_mask(crc_mask))
 }
 
 // A frame of field + 3 bytes. The store has 5,000 bytes.
@@ -327,7 +382,10 @@ pub extern "C" fn xara_receiver_push(
 ) -> XaraPushed
     ensures { (result, store.new) ≡ to_pushed_with receiver (push_tallied (receiver_of receiver) store.old frame.now field) }
 {
-    heard(receiver, receiver.receiver().push(store, frame, field))
+    heard(
+        receiver,
+        Reassembler::from(receiver).push(store, frame, field),
+    )
 }
 
 // A fragment: the n first bytes of f.
@@ -340,7 +398,7 @@ pub extern "C" fn xara_receiver_join(
 ) -> XaraPushed
     ensures { (result, store.new) ≡ to_pushed_with receiver (join_tallied (receiver_of receiver) store.old f.now n) }
 {
-    heard(receiver, receiver.receiver().join(store, f, n))
+    heard(receiver, Reassembler::from(receiver).join(store, f, n))
 }
 
 // Nothing held, fragments 0, no overflow. The tallies are kept.
@@ -348,7 +406,7 @@ pub extern "C" fn xara_receiver_join(
 pub extern "C" fn xara_receiver_reset(receiver: Stored) -> Stored
     ensures { result ≡ stored_of (reset_tallied (receiver_of receiver)) }
 {
-    Stored::of(receiver.receiver().reset())
+    Stored::from(Reassembler::from(receiver).reset())
 }
 
 // Nothing is kept.
@@ -370,7 +428,7 @@ pub extern "C" fn xara_kept_keep(
 ) -> Keeping
     ensures { (result, lent.new) ≡ to_keeping_with (keep_of kept (receiver_of receiver) store.now lent.old name.now) }
 {
-    kept.keep(receiver.receiver(), store, lent, name)
+    kept.keep(Reassembler::from(receiver), store, lent, name)
 }
 
 // The state that is kept under a name, and its bytes to the store. The name stays kept.
@@ -383,14 +441,7 @@ pub extern "C" fn xara_kept_return(
 ) -> XaraFresh
     ensures { (result, store.new) ≡ to_fresh_with (return_of kept store.old lent.now name.now) }
 {
-    match kept.return_to(store, lent, name) {
-        Returned::Refused(refusal) => no_receiver(refusal),
-        Returned::Ready(receiver) => XaraFresh {
-            ok: true,
-            refusal: 0,
-            receiver: Stored::of(receiver),
-        },
-    }
+    XaraFresh::from(kept.return_to(store, lent, name))
 }
 
 // Makes the slot of a name free. No lent byte is written.
@@ -406,20 +457,7 @@ pub extern "C" fn xara_kept_drop(kept: Kept, lent: &[u8], name: &[u8]) -> Keepin
 pub extern "C" fn xara_encode(command: u8, data: &[u8], out: &mut [u8]) -> XaraEncoded
     ensures { (result, out.new) ≡ to_encoded_with (code_into (code_of command «data».now) out.old) }
 {
-    match kiss::encode(command, data, out) {
-        Encoded::Refused(refusal) => XaraEncoded {
-            ok: false,
-            refusal,
-            aprs_type: 0,
-            length: 0,
-        },
-        Encoded::Bytes(length, aprs_type) => XaraEncoded {
-            ok: true,
-            refusal: 0,
-            aprs_type: code(aprs_type),
-            length,
-        },
-    }
+    XaraEncoded::from(kiss::encode(command, data, out))
 }
 
 // What data costs, before it is coded and sent.
@@ -427,20 +465,7 @@ pub extern "C" fn xara_encode(command: u8, data: &[u8], out: &mut [u8]) -> XaraE
 pub extern "C" fn xara_preview(command: u8, data: &[u8], field: usize, mask: u8) -> XaraPreview
     ensures { result ≡ to_preview (preview_of command «data».now field mask) }
 {
-    match preview::preview(command, data, field, mask) {
-        Previewed::Refused(refusal) => XaraPreview {
-            ok: false,
-            refusal,
-            length: 0,
-            count: 0,
-        },
-        Previewed::Costs(price) => XaraPreview {
-            ok: true,
-            refusal: 0,
-            length: price.length,
-            count: price.count,
-        },
-    }
+    XaraPreview::from(preview::preview(command, data, field, mask))
 }
 
 // What a frame is, before it is coded.
@@ -448,25 +473,7 @@ pub extern "C" fn xara_preview(command: u8, data: &[u8], field: usize, mask: u8)
 pub extern "C" fn xara_summary(command: u8, data: &[u8]) -> XaraSummary
     ensures { result ≡ to_summary (summary_of command «data».now) }
 {
-    match kiss::summary(command, data) {
-        Summarised::Refused(refusal) => XaraSummary {
-            ok: false,
-            refusal,
-            aprs_type: 0,
-            ui: false,
-            digis: 0,
-        },
-        Summarised::Is(facts) => {
-            let aprs_type = facts.aprs_type;
-            XaraSummary {
-                ok: true,
-                refusal: 0,
-                aprs_type: code(aprs_type),
-                ui: facts.ui,
-                digis: facts.digis,
-            }
-        }
-    }
+    XaraSummary::from(kiss::summary(command, data))
 }
 
 // The data that a message was coded from, in the original reading.
@@ -474,7 +481,7 @@ pub extern "C" fn xara_summary(command: u8, data: &[u8]) -> XaraSummary
 pub extern "C" fn xara_decode(message: &[u8], out: &mut [u8]) -> XaraDecoded
     ensures { (result, out.new) ≡ to_decoded_with (decode_into (decode_of false message.now) out.old) }
 {
-    given(kiss::decode(message, false, out))
+    XaraDecoded::from(kiss::decode(message, false, out))
 }
 
 // The same in the mended reading: the last two bits of a WIDE token are a binary number.
@@ -482,5 +489,5 @@ pub extern "C" fn xara_decode(message: &[u8], out: &mut [u8]) -> XaraDecoded
 pub extern "C" fn xara_decode_mended(message: &[u8], out: &mut [u8]) -> XaraDecoded
     ensures { (result, out.new) ≡ to_decoded_with (decode_into (decode_of true message.now) out.old) }
 {
-    given(kiss::decode(message, true, out))
+    XaraDecoded::from(kiss::decode(message, true, out))
 }

@@ -4,15 +4,8 @@ use borrow.Author.Rules.{rules}
 use mathlib.Core.Path.{refl}
 use Rattle.xara.proofs.heard.Goals as goal
 
-pub returns-in-Refused : goal.returns-in-Refused
-returns-in-Refused c store = rw (c.copied.ensures, c.in-Refused.is) refl
+pub returns-in-Err : goal.returns-in-Err
+returns-in-Err c store = rw (c.copied.ensures, c.in-Err.is, c.from-2.ensures) refl
 
-pub returns-in-Dropped : goal.returns-in-Dropped
-returns-in-Dropped c store =
-    rw (c.cause_number.ensures, c.of-receiver.ensures, c.in-Dropped.is) refl
-
-pub returns-in-More : goal.returns-in-More
-returns-in-More c store = rw (c.of-receiver.ensures, c.in-More.is) refl
-
-pub returns-in-Done : goal.returns-in-Done
-returns-in-Done c store = rw (c.of-receiver.ensures, c.in-Done.is) refl
+pub returns-in-Ok : goal.returns-in-Ok
+returns-in-Ok c store = ?

@@ -7,4 +7,4 @@ use Rattle.xara.proofs.ToldLaws.{beside}
 use Rattle.xara.proofs.xara_build_frame.Goals as goal
 
 pub returns : goal.returns
-returns c = beside c.said.ensures ∙ ap to_answer_with c.build_frame.ensures
+returns c = beside c.from-2.ensures ∙ ap to_answer_with (c.build_frame.ensures ∙ rw c.from.ensures)

@@ -7,4 +7,4 @@ use Rattle.xara.proofs.ToldLaws.{beside}
 use Rattle.xara.proofs.xara_decode.Goals as goal
 
 pub returns : goal.returns
-returns c = beside c.given.ensures ∙ ap to_decoded_with c.decode.ensures
+returns c = beside c.from.ensures ∙ ap to_decoded_with c.decode.ensures

@@ -7,4 +7,4 @@ use Rattle.xara.proofs.ToldLaws.{beside}
 use Rattle.xara.proofs.xara_fragment.Goals as goal
 
 pub returns : goal.returns
-returns c = beside c.said.ensures ∙ ap to_answer_with c.fragment.ensures
+returns c = beside c.from.ensures ∙ ap to_answer_with c.fragment.ensures

@@ -14,4 +14,4 @@ pub returns : goal.returns
 returns c =
     let a = c.args in
     c.keep.ensures
-    ∙ ap {A = Reassembler} {B = Keeping × List ℕ} (λ x. to_keeping_with (keep_of a.kept x a.store.now a.lent.now a.name.now)) c.receiver.ensures
+    ∙ ap {A = Reassembler} {B = Keeping × List ℕ} (λ x. to_keeping_with (keep_of a.kept x a.store.now a.lent.now a.name.now)) c.from.ensures

@@ -8,4 +8,4 @@ use Rattle.xara.proofs.xara_receiver_push.Goals as goal
 
 pub returns : goal.returns
 returns c =
-    beside (c.heard.ensures _) ∙ ap (to_pushed_with _) c.push.ensures ∙ rw c.receiver.ensures
+    beside (c.heard.ensures _) ∙ ap (to_pushed_with _) c.push.ensures ∙ rw c.from.ensures

@@ -6,4 +6,4 @@ use Rattle.receiver.specs.Stored.{stored_of}
 use Rattle.xara.proofs.xara_receiver_reset.Goals as goal
 
 pub returns : goal.returns
-returns c = c.of.ensures ∙ ap stored_of (c.reset.ensures ∙ rw c.receiver.ensures)
+returns c = c.from-2.ensures ∙ ap stored_of (c.reset.ensures ∙ rw c.from.ensures)

@@ -8,11 +8,5 @@ use Rattle.xara.specs.Told.{to_summary}
 use Rattle.xara.proofs.ToldLaws.{of_type}
 use Rattle.xara.proofs.xara_summary.Goals as goal
 
-pub returns-in-Refused : goal.returns-in-Refused
-unfolding pick
-returns-in-Refused c = ap to_summary (sym (ap summarised_of c.in-Refused.is) ∙ c.summary.ensures)
-
-pub returns-in-Is : goal.returns-in-Is
-unfolding pick
-returns-in-Is c =
-    ap to_summary (of_type c.code.ensures ∙ sym (ap summarised_of c.in-Is.is) ∙ c.summary.ensures)
+pub returns : goal.returns
+returns c = c.from.ensures ∙ ap to_summary c.summary.ensures

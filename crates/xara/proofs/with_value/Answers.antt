@@ -1,9 +1,0 @@
--- `xara::with_value` meets its contract.
--- Assumes nothing.
-use mathlib.Core.Path.{refl}
-use Rattle.laws.specs.Pick.{pick}
-use Rattle.xara.proofs.with_value.Goals as goal
-
-pub returns : goal.returns
-unfolding pick
-returns c = refl
