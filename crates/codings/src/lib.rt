@@ -1,7 +1,6 @@
 // Lines that are a coding, a summary, a decoding or a preview.
 #![tactic(auto)]
 
-use ax25_address::classify::code;
 use lines::answer::{Outcome, same_marked, same_refusal, same_three, same_two};
 
 // encode CMD ROOM HEX ANSWER: the message of data under a command, to an output of ROOM bytes
@@ -10,7 +9,7 @@ pub fn encode(command: u64, data: &[u8], answer: &[u8], out: &mut [u8]) -> Outco
         return Outcome::Bad;
     };
     match kiss::encode(command, data, out) {
-        Ok((n, kind)) => same_marked(answer, u64::from(code(kind)), out, n),
+        Ok((n, kind)) => same_marked(answer, u64::from(u8::from(kind)), out, n),
         Err(refusal) => same_refusal(answer, u8::from(refusal)),
     }
 }
@@ -23,7 +22,7 @@ pub fn summary(command: u64, data: &[u8], answer: &[u8]) -> Outcome {
     match kiss::summary(command, data) {
         Ok(facts) => same_three(
             answer,
-            u64::from(code(facts.aprs_type)),
+            u64::from(u8::from(facts.aprs_type)),
             facts.digis as u64,
             u64::from(facts.ui),
         ),
