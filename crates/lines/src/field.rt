@@ -43,11 +43,11 @@ pub fn numbers(line: &[u8], count: usize, out: &mut [u64]) -> bool {
     if fields(line) != count {
         return false;
     }
-    for i in 0..out.len() {
-        let Some(v) = numeral(field(line, i + 1)) else {
+    for (i, v) in out.iter_mut().enumerate() {
+        let Some(number) = numeral(field(line, i + 1)) else {
             return false;
         };
-        out[i] = v;
+        *v = number;
     }
     true
 }

@@ -165,7 +165,7 @@ fn call(kind: Kind, v: &[u64; 3], few: &[u8; 4], s: &[u8], answer: &[u8]) -> Out
 }
 
 // Makes a call that writes to an output of so many bytes.
-// Never inlined, as `same_bytes` of crate lines is not.
+// Never inlined, for the reason that stands at `same_bytes` of crate lines.
 #[inline(never)]
 fn within<F: FnOnce(&mut [u8]) -> Outcome>(room: u64, write: F) -> Outcome
     requires { F.IsAlwaysCallable write }
@@ -180,8 +180,7 @@ fn within<F: FnOnce(&mut [u8]) -> Outcome>(room: u64, write: F) -> Outcome
 
 // crc HEX CRC
 fn crc(data: &[u8], answer: &[u8]) -> Outcome {
-    let c = crc::crc16_genibus(data);
-    same_bytes(answer, &[(c / 256) as u8, (c % 256) as u8])
+    same_bytes(answer, &crc::crc16_genibus(data).to_be_bytes())
 }
 
 // push V AT W N HEX: V in AT bits, then the low N bits of W

@@ -8,7 +8,6 @@ mod kinds;
 use kinds::{KINDS, Kind};
 use lines::answer::Outcome;
 use lines::tell::{is_comment, print_counts, print_place};
-use texts::part::find;
 use texts::space::zeros;
 
 // How many calls of a kind were equal, and how many differ.
@@ -42,15 +41,18 @@ fn replay(s: &[u8]) {
         equal: 0,
         differ: 0,
     }; KINDS];
-    let mut at: usize = 0;
-    let mut number: u64 = 0;
-    while at < s.len() {
-        let end = find(s, at, b'\n');
-        number += 1;
-        line(&s[at..end], number, &mut counts);
-        at = end + 1;
+    for (i, text) in s.split_inclusive(|b| *b == b'\n').enumerate() {
+        line(without_end(text), i as u64 + 1, &mut counts);
     }
     report(&counts);
+}
+
+// A line without its end, which the last line may lack.
+fn without_end(text: &[u8]) -> &[u8] {
+    match text {
+        [line @ .., b'\n'] => line,
+        _ => text,
+    }
 }
 
 // Replays a line and counts it under its kind, or says that it differs or is not understood. No input is long enough for a count to wrap.

@@ -25,8 +25,3 @@ put_frame-requires c =
     let letters = c.call_len-l in
     let told = sym c.in-Some.is ∙ c.digipeaters.ensures in
     (omega (arith, letters.ensures, call_size c.args.command), told, c.requires.0, c.requires.1)
-
-pub returns : goal.returns
-returns c =
-    let w = c.put_frame.ensures in
-    (rw (← c.call_len-l.ensures) w.0, w.1)

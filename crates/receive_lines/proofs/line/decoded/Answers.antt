@@ -1,16 +1,9 @@
 -- `receive_lines::line::decoded` meets its contract.
 -- Assumes nothing.
-use mathlib.Core.Path.{ap, ◌∙◌}
-use native.Mathlib.Omega.{arith}
-use lib.ListN.{length}
+use mathlib.Core.Path.{◌∙◌}
 use Rattle.receive_lines.specs.Line.{decoded_text}
 use Rattle.receive_lines.proofs.LineLaws.{decode_refused, decode_bytes}
 use Rattle.receive_lines.proofs.line.decoded.Goals as goal
-
-pub put_done-requires : goal.put_done-requires
-put_done-requires c =
-    let h = decode_bytes _ c.args.message.now _ _ c.decode.result c.decode.ensures _ _ c.in-Ok.is in
-    omega (arith, ap length (c.front.ensures ∙ h.front), h.fits_in, c.requires.1)
 
 pub returns-in-Err : goal.returns-in-Err
 unfolding decoded_text

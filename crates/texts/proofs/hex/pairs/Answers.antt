@@ -4,7 +4,6 @@ use mathlib.Core.Path.{◌≡◌}
 use native.Mathlib.Omega.{arith}
 use Prim.Native.Nat.{◌+◌, ◌*◌, ◌<◌}
 use lib.ListN.{length}
-use lib.Seq.{take_all}
 use Rattle.laws.proofs.WroteLaws.{wrote_then, wrote_none}
 use Rattle.texts.specs.Hex.{bytes_of}
 use Rattle.texts.proofs.HexLaws.{bytes_more}
@@ -22,9 +21,3 @@ loop-i-preserved c =
     let e : (i + 1) * 2 ≡ i * 2 + 2 = omega arith in
     let h : i * 2 + 1 < length text = omega arith in
     rw (e, bytes_more text i h, ← c.value_at.ensures.0, ← c.value_at-in-loop-i.ensures.0, ← byte.ensures.next_is) (wrote_then c.loop-i.invariant byte.ensures)
-
-pub returns : goal.returns
-returns c =
-    let a = c.args in
-    let e : c.loop-i.i ≡ a.n = omega arith in
-    rw e at (rw (take_all (c.loop-i.i * 2) a.text.now (omega arith)) at c.loop-i.invariant)

@@ -3,7 +3,6 @@
 use mathlib.Core.Path.{◌≡◌, refl, sym, ◌∙◌}
 use Prim.Native.Nat.{ℕ, ◌*◌, ◌/◌, ◌%◌}
 use native.Mathlib.Omega.{arith}
-use lib.ListN.{length}
 use Rattle.texts.specs.Hex.{left_by}
 use Rattle.texts.proofs.HexLaws.{read_other, read_odd, read_long, read_all}
 use Rattle.texts.proofs.hex.read_hex.Goals as goal
@@ -22,12 +21,6 @@ returns-then-text-eq1 c = (read_odd _ _ (sym c.is_hex.ensures ∙ c.if-not-is_he
 pub returns-then-out-n : goal.returns-then-out-n
 unfolding left_by
 returns-then-out-n c = (read_long _ _ (sym c.is_hex.ensures ∙ c.if-not-is_hex.false) c.if-text-eq1.false c.if-out-n.true, refl)
-
-pub pairs-requires : goal.pairs-requires
-pairs-requires c =
-    let text = c.args.text.now in
-    let even : length text ≡ length text / 2 * 2 = even_halves (length text) c.if-text-eq1.false in
-    (sym c.is_hex.ensures ∙ c.if-not-is_hex.false, even, omega arith)
 
 pub returns : goal.returns
 unfolding left_by

@@ -11,9 +11,6 @@ returns-then-n-lt10 t c =
     let n = c.args.n in
     rw (numeral_digit n c.if-n-lt10.true) c.byte.ensures
 
-pub put_number-p-requires : goal.put_number-p-requires
-put_number-p-requires t c = (omega arith, c.requires)
-
 pub byte-requires-2 : goal.byte-requires-2
 byte-requires-2 t c =
     omega (arith, c.requires, c.put_number-p.ensures.next_is, numeral_length (c.args.n / 10))

@@ -2,12 +2,8 @@
 -- Assumes nothing.
 use borrow.Author.Rules.{rules}
 use mathlib.Core.Path.{◌∙◌}
-use native.Mathlib.Nat.{sub-zero}
 use Rattle.texts.proofs.PartLaws.{piece_next, piece_here}
 use Rattle.texts.proofs.part.piece.Goals as goal
-
-pub loop-init : goal.loop-init
-loop-init c = (search rules, rw sub-zero)
 
 pub loop-preserved : goal.loop-preserved
 loop-preserved c =
