@@ -112,7 +112,8 @@ fn put_code(s: &[u8], at: usize, position: bool, code: u64, out: &mut [u8], to: 
         }
         2..=9 => words::put_word(out, to, code as usize),
         10..=31 => to,
-        _ => bits_write::byte(out, to, code as u8),
+        32..=127 => bits_write::byte(out, to, code as u8),
+        _ => to,
     }
 }
 

@@ -17,16 +17,22 @@ pub fn collect(d: &[u8], stop: u8, k: usize) -> Option<Span>
     ensures result_value { field_in d.now result ≡ collect_of stop k d.now }
     ensures within { Within k d.now result }
 {
-    for j in 0..k {
+    // a loop whose break carries text end and next place is the form that document 01 names for this scan
+    let mut j = 0;
+    let span = loop {
+        if k <= j {
+            break Span { end: j, next: 0 };
+        }
         if d.len() <= j {
             return None;
         }
         if d[j] == stop {
-            return Some(Span {
+            break Span {
                 end: j,
                 next: j + 1,
-            });
+            };
         }
-    }
-    Some(Span { end: k, next: 0 })
+        j += 1;
+    };
+    Some(span)
 }

@@ -91,7 +91,10 @@ pub fn message_decode(
     requires { (length s.now < 2 ^ 55) × (to < 2 ^ 54) × (2 ≤ l) × (l ≤ 7) }
     ensures { Reads (read_message mended l (drop at (unpack s.now))) out.old to out.new result }
 {
-    let (call, p) = ax25_token::token_decode(s, at, l, mended)?;
+    // let .. else is the form that document 01 names for a token's answer
+    let Some((call, p)) = ax25_token::token_decode(s, at, l, mended) else {
+        return None;
+    };
     let i = bits_write::byte(out, to, b':');
     let j = put_filled(call, out, i);
     let k = bits_write::byte(out, j, b':');

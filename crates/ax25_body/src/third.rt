@@ -124,7 +124,10 @@ fn call_decode(
     requires { (length s.now < 2 ^ 55) × (2 ≤ l) × (l ≤ 7) × (length before.now ≤ 16) × (to < 2 ^ 54) }
     ensures { Passes (read_token mended l (drop at (unpack s.now))) (unpack s.now) before.now out.old to out.new result }
 {
-    let (call, p) = ax25_token::token_decode(s, at, l, mended)?;
+    // let .. else is the form that document 01 names for a token's answer
+    let Some((call, p)) = ax25_token::token_decode(s, at, l, mended) else {
+        return None;
+    };
     let i = bits_write::copy(out, to, before);
     Some((p, body::put_text(call, out, i)))
 }

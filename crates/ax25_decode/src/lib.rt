@@ -52,7 +52,10 @@ fn read_address(
     requires { (length s.now < 5000) × (2 ≤ l) × (l ≤ 7) × (to < 2 ^ 20) }
     ensures { ReadsTo (field_of l h last) (unpack s.now) (read_token mended l (drop at (unpack s.now))) out.old to out.new result }
 {
-    let (c, p) = token_decode(s, at, l, mended)?;
+    // let .. else is the form that document 01 names for a token's answer
+    let Some((c, p)) = token_decode(s, at, l, mended) else {
+        return None;
+    };
     Some((p, call_bytes(c, l, mark(h, last), out, to)))
 }
 

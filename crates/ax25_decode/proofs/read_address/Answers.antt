@@ -6,10 +6,10 @@ use Rattle.ax25_decode.proofs.ReaderLaws.{address_next}
 use borrow.Author.Rules.{rules}
 use Rattle.ax25_decode.proofs.read_address.Goals as goal
 
-pub returns-in_err-c : goal.returns-in_err-c
-returns-in_err-c c = rw c.from_residual.ensures (token_nothing _ _ _ c.token_decode.ensures.0 c.in_err-c.was)
+pub returns-in_default : goal.returns-in_default
+returns-in_default c = token_nothing _ _ _ c.token_decode.ensures.0 c.in_default.is
 
 pub returns : goal.returns
 returns c =
     let a = c.args in
-    address_next a.l a.h a.last (unpack a.s.now) _ _ c.token_decode.ensures.0 _ _ c.in_ok-c.was _ c.mark.ensures c.call_bytes.ensures
+    address_next a.l a.h a.last (unpack a.s.now) _ _ c.token_decode.ensures.0 _ _ c.in-Some.is _ c.mark.ensures c.call_bytes.ensures

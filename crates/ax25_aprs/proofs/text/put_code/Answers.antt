@@ -27,12 +27,15 @@ returns-in-2-to-9 c =
     let a = c.args in
     rw (code_word a.position a.code (drop a.at (unpack a.s.now)) (omega arith) (omega arith)) c.put_word.ensures
 
-pub returns-in_default : goal.returns-in_default
-returns-in_default c =
-    let a = c.args in
-    rw (code_self a.position a.code (drop a.at (unpack a.s.now)) (omega arith)) c.byte.ensures
-
 pub returns-in-10-to-31 : goal.returns-in-10-to-31
 returns-in-10-to-31 c =
     let a = c.args in
     rw (code_none a.position a.code (drop a.at (unpack a.s.now)) (omega arith) (omega arith)) wrote_none
+
+pub returns-in-32-to-127 : goal.returns-in-32-to-127
+returns-in-32-to-127 c =
+    let a = c.args in
+    rw (code_self a.position a.code (drop a.at (unpack a.s.now)) (omega arith)) c.byte.ensures
+
+pub returns-in_default : goal.returns-in_default
+returns-in_default c = absurd (omega arith)

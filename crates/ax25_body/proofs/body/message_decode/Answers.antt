@@ -12,13 +12,13 @@ use Rattle.ax25_body.proofs.BodyLaws.{message_none, message_some}
 use borrow.Author.Rules.{rules}
 use Rattle.ax25_body.proofs.body.message_decode.Goals as goal
 
-pub returns-in_err-call : goal.returns-in_err-call
-returns-in_err-call c =
+pub returns-in_default : goal.returns-in_default
+returns-in_default c =
     let a = c.args in
     let u = unpack a.s.now in
     let b = drop a.at u in
     let d = c.token_decode in
-    rw (message_none a.mended a.l b (token_nothing u (read_token a.mended a.l b) d.result d.ensures.0 c.in_err-call.was)) c.from_residual.ensures
+    rw (message_none a.mended a.l b (token_nothing u (read_token a.mended a.l b) d.result d.ensures.0 c.in_default.is)) refl
 
 pub returns : goal.returns
 returns c =
@@ -26,6 +26,6 @@ returns c =
     let u = unpack a.s.now in
     let b = drop a.at u in
     let d = c.token_decode in
-    let t = token_next u (read_token a.mended a.l b) d.result d.ensures.0 _ _ c.in_ok-call.was in
-    rw (message_some a.mended a.l b (text_of c.in_ok-call.call) (drop c.in_ok-call.p u) t)
+    let t = token_next u (read_token a.mended a.l b) d.result d.ensures.0 _ _ c.in-Some.is in
+    rw (message_some a.mended a.l b (text_of c.in-Some.call) (drop c.in-Some.p u) t)
     (reads (wrote_then c.byte-i.ensures (wrote_then c.put_filled-j.ensures.wrote (wrote_then c.byte-k.ensures c.text_decode.ensures))))

@@ -12,12 +12,12 @@ use borrow.Author.Rules.{rules}
 use Prim.Native.Nat.{◌≤◌}
 use Rattle.ax25_body.proofs.third.call_decode.Goals as goal
 
-pub returns-in_err-call : goal.returns-in_err-call
-returns-in_err-call c =
+pub returns-in_default : goal.returns-in_default
+returns-in_default c =
     let a = c.args in
     let u = unpack a.s.now in
     let d = c.token_decode in
-    rw c.from_residual.ensures (passes_none _ _ _ _ _ _ (token_nothing u (read_token a.mended a.l (drop a.at u)) d.result d.ensures.0 c.in_err-call.was))
+    (passes_none _ _ _ _ _ _ (token_nothing u (read_token a.mended a.l (drop a.at u)) d.result d.ensures.0 c.in_default.is))
 
 pub returns : goal.returns
 returns c =
@@ -25,11 +25,11 @@ returns c =
     let u = unpack a.s.now in
     let d = c.token_decode in
     let w = c.put_text.ensures in
-    let few : c.in_ok-call.call.len ≤ 10 = rw c.in_ok-call.was at d.ensures.1 in
+    let few : c.in-Some.call.len ≤ 10 = rw c.in-Some.is at d.ensures.1 in
     passes _ _ _ _ _ _ _ _
     record {
-      text = text_of c.in_ok-call.call;
-      is = token_next u (read_token a.mended a.l (drop a.at u)) d.result d.ensures.0 _ _ c.in_ok-call.was;
+      text = text_of c.in-Some.call;
+      is = token_next u (read_token a.mended a.l (drop a.at u)) d.result d.ensures.0 _ _ c.in-Some.is;
       short = omega (arith, few, w.wrote.next_is, w.value);
       wrote = wrote_then c.copy-i.ensures w.wrote;
     }
