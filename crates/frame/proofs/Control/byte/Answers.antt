@@ -1,10 +1,7 @@
 -- `frame::Control::byte` meets its contract.
 -- Assumes nothing.
 use native.Mathlib.Omega.{arith}
-use mathlib.Core.Bool.{Bool, true, false}
-use mathlib.Core.Path.{◌≡◌, refl, ◌∙◌}
-use mir.Val.{bool_byte}
-use Rattle.laws.specs.Bits.{num}
+use mathlib.Core.Path.{◌∙◌}
 use Rattle.frame.proofs.FlagLaws.{byte_num}
 use Rattle.frame.specs.Frame.{control_byte}
 use Rattle.frame.proofs.Control.byte.Goals as goal

@@ -1,12 +1,8 @@
 -- `Joiner::grow` meets its contract: each way out is a case of the definition.
 -- Assumes nothing.
 use mathlib.Core.Path.{◌≡◌, sym, ◌∙◌}
-use mathlib.Core.List.{List}
 use Prim.Native.Nat.{ℕ, ◌+◌, ◌-◌, ◌≤◌, ◌<◌}
 use native.Mathlib.Omega.{arith}
-use lib.ListN.{length}
-use lib.Seq.{sets}
-use borrow.Rule.Slice.PartMut.{put_mid}
 use Rattle.frame.proofs.PartLaws.{put_copied}
 use Rattle.receiver.specs.Join.{base_of}
 use Rattle.receiver.proofs.JoinLaws.{grow_many, grow_long, grow_more, grow_last, base_max}
