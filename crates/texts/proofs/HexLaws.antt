@@ -1,7 +1,7 @@
 -- Digits and their values, and texts of them from the front.
 -- Assumes nothing.
 use mathlib.Core.Path.{◌≡◌, refl, ap, sym, ◌∙◌}
-use mathlib.Core.Bool.{true, false}
+use mathlib.Core.Bool.{true, false, ◌&&◌}
 use mathlib.Core.List.{List, [], ◌∷◌, ◌++◌, append_assoc, append-nil, flat_map}
 use Prim.Native.Nat.{ℕ, zero, suc, ◌+◌, ◌-◌, ◌*◌, ◌/◌, ◌%◌, ◌≤◌, ◌<◌}
 use native.Mathlib.Nat.{not-suc-le-zero, le_of_suc-le-suc, suc-mul}
@@ -9,18 +9,20 @@ use native.Mathlib.Numerals.{add-one}
 use native.Mathlib.Omega.{arith}
 use lib.ListN.{length, get_or, take, length-append}
 use lib.Seq.{sets, take-suc}
-use lib.Dec.{eqb, ltb}
-use borrow.Author.Tests.{lt-ltb, le-ltb, ltb-true, ltb-false, eq-eqb, ne_eqb}
+use lib.Dec.{eqb, ltb, leb}
+use borrow.Author.Tests.{leb-true, lt-ltb, le-ltb, ltb-true, ltb-false, eq-eqb, ne_eqb}
 use Rattle.laws.specs.Pick.{pick}
 use Rattle.laws.proofs.Cases.{by_test, pick_true, pick_false, and_left, and_right}
 use Rattle.laws.proofs.ListLaws.{take_sets}
 use Rattle.laws.proofs.TrimLaws.{between_below, between_yes, between_above}
-use Rattle.std.proofs.Common.{None, Some, Result, Ok, Err}
+use Rattle.std.proofs.Common.{Result, Ok, Err}
 use Rattle.std.specs.List.{list_all}
 use Rattle.std.proofs.Common.{rules}
-use Rattle.std.specs.Option.{IfSome, is_some}
+use Rattle.std.specs.Char.{is_ascii_hexdigit}
+use Rattle.std.specs.Option.{IfSome}
+use Rattle.laws.specs.Text.{between}
 use Rattle.std.specs.Result.{result_ok}
-use Rattle.texts.specs.Hex.{hex_value, digit_value, is_hex, bytes_of, read_of, left_by}
+use Rattle.texts.specs.Hex.{hex_value, is_hex, bytes_of, read_of, left_by}
 use Rattle.texts.specs.declared.hex.HexError.{HexError}
 use Rattle.texts.specs.declared.hex.HexError.TheVariants.{NoDigit, Odd, TooLong}
 
@@ -80,24 +82,23 @@ module _ (c : ℕ) where
   value_high h =
       rw (between_above 48 57 c (omega arith) (omega arith), between_above 65 70 c (omega arith) (omega arith), between_above 97 102 c (omega arith) h)
 
-module _ (c : ℕ) where
-  pub digit_none : hex_value c ≡ 16 → None ≡ digit_value c
-  unfolding digit_value
-  digit_none e = sym (pick_false _ _ (le-ltb (hex_value c) 16 (omega arith)))
-
-  pub digit_some : (v : ℕ) → hex_value c ≡ v → v < 16 → Some v ≡ digit_value c
-  unfolding digit_value
-  digit_some v e h = ap Some (sym e) ∙ sym (pick_true _ _ (lt-ltb (hex_value c) 16 (omega arith)))
-
 -- ---- a text of digits
 
-pub hex_all : (s : List ℕ) → list_all (λ c. is_some (digit_value c)) s ≡ is_hex s
-unfolding is_hex digit_value pick
+hexdigit_is : (c : ℕ) → is_ascii_hexdigit c ≡ ltb (hex_value c) 16
+unfolding hex_value pick between
+hexdigit_is c =
+    by_test (leb 48 c && leb c 57)
+    (λ t. rw (t, lt-ltb (c - 48) 16 (omega (arith, leb-true c 57 (and_right (leb 48 c) (leb c 57) t)))))
+    (λ t. by_test (leb 65 c && leb c 70)
+    (λ u. rw (t, u, lt-ltb (c - 55) 16 (omega (arith, leb-true c 70 (and_right (leb 65 c) (leb c 70) u)))))
+    (λ u. by_test (leb 97 c && leb c 102)
+    (λ v. rw (t, u, v, lt-ltb (c - 87) 16 (omega (arith, leb-true c 102 (and_right (leb 97 c) (leb c 102) v)))))
+    (λ v. rw (t, u, v))))
+
+pub hex_all : (s : List ℕ) → list_all is_ascii_hexdigit s ≡ is_hex s
+unfolding is_hex
 hex_all [] = refl
-hex_all (c ∷ s) =
-    by_test (ltb (hex_value c) 16)
-    (λ t. rw (t, hex_all s))
-    (λ t. rw t)
+hex_all (c ∷ s) = rw (hexdigit_is c, hex_all s)
 
 -- each of its bytes has a value below 16
 pub hex_digit : (s : List ℕ) → is_hex s ≡ true → (i : ℕ) → i < length s → hex_value (get_or s i 0) < 16

@@ -1,6 +1,6 @@
 -- Bytes in hexadecimal.
 -- Assumes nothing.
-use Rattle.std.specs.Prelude.{Option, None, Some, Result, Ok, Err}
+use Rattle.std.specs.Prelude.{Result, Ok, Err}
 use Rattle.std.specs.Prelude.{Bool, true, ◌&&◌, ℕ, ◌+◌, ◌-◌, ◌*◌, ◌/◌, ◌%◌, length, get_or, eqb, ltb}
 use mathlib.Core.List.{List, [], ◌∷◌, flat_map}
 use Rattle.std.proofs.lemmas.List.Edits.{sets}
@@ -26,10 +26,6 @@ hex_value c =
     pick (between 48 57 c) (c - 48)
     (pick (between 65 70 c) (c - 55)
     (pick (between 97 102 c) (c - 87) 16))
-
--- the same for a digit, none for any other byte
-unfoldable pub digit_value : ℕ → Option ℕ
-digit_value c = pick (ltb (hex_value c) 16) (Some (hex_value c)) None
 
 -- every byte is a digit
 unfoldable pub is_hex : List ℕ → Bool

@@ -2,14 +2,13 @@
 -- Assumes nothing.
 use mathlib.Core.Path.{◌∙◌}
 use Rattle.std.proofs.Common.{rules, tests}
-use Rattle.std.specs.Option.{is_some}
+use Rattle.std.specs.Char.{is_ascii_hexdigit}
 use Rattle.std.proofs.lemmas.Iterator.{YieldsList-from_slice}
 use Rattle.std.proofs.lemmas.Iterator.Search.{all_from_yields_List}
-use Rattle.texts.specs.Hex.{digit_value}
 use Rattle.texts.proofs.HexLaws.{hex_all}
 use Rattle.texts.proofs.hex.is_hex.Goals as goal
 
 pub returns : goal.returns
 returns c =
     let text = c.args.text.now in
-    all_from_yields_List (λ x. is_some (digit_value x)) _ _ _ c.all.ensures.ran (YieldsList-from_slice text cc) (λ x b q k. search (rules, tests)) ∙ hex_all text
+    all_from_yields_List is_ascii_hexdigit _ _ _ c.all.ensures.ran (YieldsList-from_slice text cc) (λ x b q k. search (rules, tests)) ∙ hex_all text
