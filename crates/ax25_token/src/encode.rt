@@ -135,7 +135,7 @@ pub fn same(c: &[u8], n: &[u8]) -> bool
     c == n
 }
 
-// One of four texts.
+// One of four texts. A `match` over byte strings was tried in its place, here and for the names of FIXED: its later arms know no more of the bytes than their number, so it is not proved.
 pub(crate) fn one_of(c: &[u8], v: &[u8], w: &[u8], x: &[u8], y: &[u8]) -> bool
     ensures { result ≡ is_one_of c.now (v.now ∷ w.now ∷ x.now ∷ y.now ∷ []) }
 {

@@ -1,12 +1,8 @@
 -- `bits_write::push_each` meets its contract: so many bytes are written, and at the end of the output the rest is not.
 -- Assumes nothing.
 use native.Mathlib.Omega.{arith}
-use native.Mathlib.Nat.{mul-le-mul_right}
 use native.Mathlib.Numerals.{add-one}
-use mathlib.Core.Path.{◌≡◌}
-use Prim.Native.Nat.{◌*◌, ◌≤◌}
-use lib.ListN.{length, drop}
-use lib.Seq.{take_all}
+use lib.ListN.{drop}
 use Rattle.laws.proofs.ByteLaws.{length_unpack}
 use Rattle.laws.proofs.WroteLaws.{wrote_then, wrote_none, stored_past}
 use Rattle.bits_write.specs.Text7.{bits_each}
@@ -26,12 +22,6 @@ returns-then-out-pos-clause-wrote c =
     let stored = rw all at (stored_past (bits_each a.n (drop i s)) c.loop-x.invariant.1 (omega (arith, length_unpack c.loop-x.out))) in
     record { stored = stored; next_is = omega (arith, length_each a.n s) }
 
-pub push-pos-requires : goal.push-pos-requires
-push-pos-requires c =
-    let a = c.args in
-    let below : c.loop-x.x-index * a.n ≤ length a.s.now * a.n = mul-le-mul_right a.n (omega arith) in
-    (omega arith, omega arith)
-
 pub loop-x-preserved : goal.loop-x-preserved
 loop-x-preserved c =
     let a = c.args in
@@ -39,11 +29,3 @@ loop-x-preserved c =
       omega (arith, c.push-pos.ensures.value),
       rw (add-one, each_take_suc a.n a.s.now i (omega arith), ← c.from.ensures) (wrote_then c.loop-x.invariant.1 c.push-pos.ensures.wrote),
     )
-
-pub returns-clause-wrote : goal.returns-clause-wrote
-returns-clause-wrote c = rw (take_all c.loop-x.x-index c.args.s.now (omega arith)) at c.loop-x.invariant.1
-
-pub returns-clause-value : goal.returns-clause-value
-returns-clause-value c =
-    let all : c.loop-x.x-index ≡ length c.args.s.now = omega arith in
-    rw all at c.loop-x.invariant.0

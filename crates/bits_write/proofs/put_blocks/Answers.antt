@@ -10,23 +10,13 @@ use lib.Pow.{pow_pos}
 use lib.Seq.{sets, length-take-le}
 use Rattle.laws.specs.Bits.{bits_of, unpack}
 use Rattle.bits_write.specs.Text7.{sevens}
-use Rattle.bits_write.proofs.BlockLaws.{sevens_add, carry, carried_lt, block_on}
+use Rattle.bits_write.proofs.BlockLaws.{sevens_add, carry, block_on}
 use Rattle.bits_write.proofs.Text7Laws.{length_sevens}
 use Rattle.bits_write.proofs.put_blocks.Goals as goal
 
 pub loop-j-init : goal.loop-j-init
 unfolding sevens
 loop-j-init c = (search rules, search rules, rw add-zero)
-
-pub overflow_mul-x : goal.overflow_mul-x
-overflow_mul-x c = omega (arith, carried_lt c.loop-j.carried (omega arith) c.loop-j.invariant.0)
-
-pub overflow_add-x : goal.overflow_add-x
-overflow_add-x c = omega (arith, carried_lt c.loop-j.carried (omega arith) c.loop-j.invariant.0, c.block.ensures.1)
-
-pub nonzero_rem-carried : goal.nonzero_rem-carried
-nonzero_rem-carried c =
-    rw c.power-p.ensures (pow_pos c.args.o)
 
 pub loop-j-preserved : goal.loop-j-preserved
 loop-j-preserved c =
@@ -43,7 +33,3 @@ loop-j-preserved c =
     let on =
     block_on (sets (unpack a.out.now) (a.i * 8) (bits_of a.o a.first)) (unpack c.loop-j.out) (a.i * 8 + a.o) ((a.i + j * 7) * 8) a.o 56 c.loop-j.carried (x / 2 ^ a.o) (x % 2 ^ a.o) (sevens (take (j * 8) s)) (bits_of 56 block.result) room inv.2 (carry a.o 56 c.loop-j.carried block.ensures.1) in
     (rw power.ensures (mod-lt x (pow_pos a.o)), search rules, rw (power.ensures, c.put_bytes.ensures, ← f, sevens_add (j * 8) 8 s, ← block.ensures.0) (rw e at on))
-
-pub returns : goal.returns
-returns c =
-    let all : c.loop-j.j ≡ c.args.n = omega arith in record { upper_bound = c.loop-j.invariant.0; result_after = rw all at c.loop-j.invariant.2 }

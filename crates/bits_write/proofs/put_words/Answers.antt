@@ -2,7 +2,6 @@
 -- Assumes nothing.
 use borrow.Author.Rules.{rules}
 use native.Mathlib.Omega.{arith}
-use native.Mathlib.Nat.{add-zero}
 use mathlib.Core.Path.{◌≡◌}
 use Prim.Native.Nat.{◌+◌, ◌-◌, ◌*◌, ◌/◌, ◌%◌, ◌^◌}
 use lib.ListN.{length, take}
@@ -11,9 +10,6 @@ use Rattle.laws.specs.Bits.{bits_of, unpack}
 use Rattle.laws.proofs.ByteLaws.{length_unpack}
 use Rattle.bits_write.proofs.BlockLaws.{carry_word, carry_lt, block_on}
 use Rattle.bits_write.proofs.put_words.Goals as goal
-
-pub loop-j-init : goal.loop-j-init
-loop-j-init c = (search rules, rw add-zero)
 
 pub overflow_add-carried : goal.overflow_add-carried
 overflow_add-carried c =
@@ -35,8 +31,3 @@ loop-j-preserved c =
     let on =
     block_on (sets (unpack a.out.now) (a.i * 8) (bits_of a.o a.first)) (unpack c.loop-j.out) (a.i * 8 + a.o) ((a.i + j * 8) * 8) a.o 64 carried x v.result (take (j * 64) b) (bits_of 64 v.result) room c.loop-j.invariant.1 (carry_word a.o 64 carried (omega arith) v.type_inv) in
     (search rules, rw (c.put_bytes.ensures, ← f, take-add (j * 64) 64 b, ← more) (rw e at on))
-
-pub returns : goal.returns
-returns c =
-    let all : c.loop-j.j ≡ c.args.n = omega arith in
-    rw all at c.loop-j.invariant.1

@@ -12,43 +12,16 @@ is_splice : (x v m r p q : ℕ) → p ≡ 2 ^ m → q ≡ 2 ^ r → (x / q / p *
 unfolding splice
 is_splice x v m r p q e f = rw (e, f)
 
--- what every goal asks: no divisor is 0, and the parts are no larger than the sum, a byte
+-- the parts are no larger than the sum, and the sum is a byte
 module _ (x v m r p q : ℕ) (small : m + r ≤ 8) (byte : x < 256) (e : p ≡ 2 ^ m) (f : q ≡ 2 ^ r) where
   sum_is : (x / q / p * p + v % p) * q + x % q ≡ splice x v m r
   sum_is = is_splice x v m r p q e f
-
-  p_pos : 0 < p
-  p_pos = rw e (pow_pos m)
 
   q_pos : 0 < q
   q_pos = rw f (pow_pos r)
 
   fits : (x / q / p * p + v % p ≤ (x / q / p * p + v % p) * q) × ((x / q / p * p + v % p) * q + x % q < 256)
   fits = (le-mul_of_pos_right (x / q / p * p + v % p) q_pos, omega (arith, sum_is, splice_lt 8 (8 - (m + r)) m r x v (omega arith) (omega arith)))
-
-pub nonzero_div-result : goal.nonzero_div-result
-nonzero_div-result c = q_pos c.from-w.result c.args.v c.args.m c.args.r c.power-p.result c.power-q.result c.requires (omega arith) c.power-p.ensures c.power-q.ensures
-
-pub nonzero_div-result-2 : goal.nonzero_div-result-2
-nonzero_div-result-2 c = p_pos c.from-w.result c.args.v c.args.m c.args.r c.power-p.result c.power-q.result c.requires (omega arith) c.power-p.ensures c.power-q.ensures
-
-pub nonzero_rem-result : goal.nonzero_rem-result
-nonzero_rem-result c = p_pos c.from-w.result c.args.v c.args.m c.args.r c.power-p.result c.power-q.result c.requires (omega arith) c.power-p.ensures c.power-q.ensures
-
-pub nonzero_rem-result-2 : goal.nonzero_rem-result-2
-nonzero_rem-result-2 c = q_pos c.from-w.result c.args.v c.args.m c.args.r c.power-p.result c.power-q.result c.requires (omega arith) c.power-p.ensures c.power-q.ensures
-
-pub overflow_mul-result : goal.overflow_mul-result
-overflow_mul-result c = omega (arith, fits c.from-w.result c.args.v c.args.m c.args.r c.power-p.result c.power-q.result c.requires (omega arith) c.power-p.ensures c.power-q.ensures)
-
-pub overflow_add-result : goal.overflow_add-result
-overflow_add-result c = omega (arith, fits c.from-w.result c.args.v c.args.m c.args.r c.power-p.result c.power-q.result c.requires (omega arith) c.power-p.ensures c.power-q.ensures)
-
-pub overflow_mul-result-2 : goal.overflow_mul-result-2
-overflow_mul-result-2 c = omega (arith, fits c.from-w.result c.args.v c.args.m c.args.r c.power-p.result c.power-q.result c.requires (omega arith) c.power-p.ensures c.power-q.ensures)
-
-pub overflow_add-result-2 : goal.overflow_add-result-2
-overflow_add-result-2 c = omega (arith, fits c.from-w.result c.args.v c.args.m c.args.r c.power-p.result c.power-q.result c.requires (omega arith) c.power-p.ensures c.power-q.ensures)
 
 pub overflow_cast-result : goal.overflow_cast-result
 overflow_cast-result c = omega (arith, fits c.from-w.result c.args.v c.args.m c.args.r c.power-p.result c.power-q.result c.requires (omega arith) c.power-p.ensures c.power-q.ensures)

@@ -1,9 +1,8 @@
 -- `ax25_token::encode::put_plain` meets its contract.
 -- Assumes nothing.
-use native.Mathlib.Omega.{arith}
 use Rattle.laws.proofs.WroteLaws.{wrote_then}
 use Rattle.ax25_token.proofs.PutLaws.{plain_size}
-use Rattle.ax25_token.proofs.NameLaws.{plain_unhyphened, small_count, plain_uncounted, plain_counted}
+use Rattle.ax25_token.proofs.NameLaws.{plain_unhyphened, plain_uncounted, plain_counted}
 use Rattle.ax25_token.proofs.encode.put_plain.Goals as goal
 
 pub numbered_of-requires : goal.numbered_of-requires

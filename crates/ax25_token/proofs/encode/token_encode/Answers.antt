@@ -1,6 +1,6 @@
 -- `ax25_token::encode::token_encode` meets its contract.
 -- Assumes nothing.
-use Rattle.ax25_token.proofs.NameLaws.{small_row, token_unpaired, token_paired}
+use Rattle.ax25_token.proofs.NameLaws.{token_unpaired, token_paired}
 use Rattle.ax25_token.proofs.encode.token_encode.Goals as goal
 
 pub returns-in_default : goal.returns-in_default
