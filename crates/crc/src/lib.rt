@@ -108,37 +108,36 @@ fn crc_folded(data: &[u8]) -> u16
     crc_window(&w)
 }
 
-// All whole groups of eight bytes, by a window, which pays where they are many. It is called: put in place it makes short inputs save registers that they do not use.
-#[inline(never)]
-fn crc_groups(data: &[u8]) -> u16
-    ensures { result ≡ crc_from start (take (length «data».now / 8 * 8) «data».now) }
-{
-    let c = crc_folded(data);
-    crc_rest(c, &data[data.len() / 128 * 128..])
-}
-
-// All whole groups of eight bytes, by the way that is faster for so many.
-fn crc_whole(data: &[u8]) -> u16
-    ensures { result ≡ crc_from start (take (length «data».now / 8 * 8) «data».now) }
-{
-    if data.len() < 8 {
-        0xFFFF
-    } else if data.len() < 256 {
-        crc_rest(0xFFFF, data)
-    } else {
-        crc_groups(data)
-    }
-}
-
-// The CRC of any bytes. The last of them go by index: over a slice the compiler unrolls the loop, and 15 bytes take 23.5 ns in place of 19.5.
-pub fn crc16_genibus(data: &[u8]) -> u16
+// The bytes after the last whole group of eight, and the complement.
+#[inline(always)]
+fn crc_end(before: u16, data: &[u8]) -> u16
+    requires { before ≡ crc_from start (take (length «data».now / 8 * 8) «data».now) }
     ensures { result ≡ crc_of «data».now }
 {
-    let mut c = crc_whole(data);
+    let mut c = before;
     for i in data.len() / 8 * 8..data.len() {
         c = crc_byte(c, data[i]);
     }
     c ^ 0xFFFF
+}
+
+// The CRC of many bytes, by a window. Nothing follows its call, so that short inputs save no registers for it.
+#[inline(never)]
+fn crc_long(data: &[u8]) -> u16
+    ensures { result ≡ crc_of «data».now }
+{
+    let c = crc_folded(data);
+    crc_end(crc_rest(c, &data[data.len() / 128 * 128..]), data)
+}
+
+// The CRC of any bytes, by the way that is faster for so many.
+pub fn crc16_genibus(data: &[u8]) -> u16
+    ensures { result ≡ crc_of «data».now }
+{
+    if 256 <= data.len() {
+        return crc_long(data);
+    }
+    crc_end(crc_rest(0xFFFF, data), data)
 }
 
 // The CRC's high byte under a mask.

@@ -1,4 +1,4 @@
--- `crc::crc16_genibus` meets its contract: the bytes that are left come after those that are in.
+-- `crc::crc_end` meets its contract: the bytes that are left come after those that are in.
 -- Assumes nothing.
 use mathlib.Core.Path.{sym, ap, ◌∙◌}
 use Prim.Native.Nat.{ℕ}
@@ -7,7 +7,7 @@ use lib.Seq.{take_all}
 use lib.Bits.{bit_xor}
 use Rattle.crc.specs.Crc.{start, final, crc_from, crc_of}
 use Rattle.crc.proofs.LinearLaws.{from_one}
-use Rattle.crc.proofs.crc16_genibus.Goals as goal
+use Rattle.crc.proofs.crc_end.Goals as goal
 
 pub loop-i-preserved : goal.loop-i-preserved
 loop-i-preserved c =
