@@ -27,7 +27,8 @@ pub struct Kept {
     pub slots: [Slot; 8],
 }
 
-// ok with the place of a name, or a refusal's number, and the kept states as the call leaves them.
+// ok with the place of a name, or a refusal's number, and the kept states as the call leaves them. It is no `Result`, since xara_kept_keep and
+// xara_kept_drop hand back this very struct to C.
 #[repr(C)]
 #[derive(Clone, Copy)]
 pub struct Keeping {

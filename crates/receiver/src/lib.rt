@@ -416,7 +416,7 @@ impl Reassembler {
 }
 
 // A receiver as it is kept. The tallies are copied one by one, here and back: as a whole they are moved together with the bytes before them that
-// belong to no field, and a keep of one of eight states takes 206 ns in place of 190, a push that is dropped 26.2 in place of 25.2.
+// belong to no field, and the 13 pushes of a message then take 710 ns in place of 690.
 impl From<Reassembler> for Stored {
     ghost from_gives = { λ receiver stored. stored ≡ stored_of receiver };
 
