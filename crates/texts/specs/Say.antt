@@ -21,7 +21,7 @@ command_of w =
     (pick (same w (ascii "long")) 1
     (pick (same w (ascii "generic")) 2 3))
 
--- the same, none where it is none
+-- the command of a word, if it names one
 unfoldable pub named_of : List ℕ → Option ℕ
 named_of w = pick (ltb 2 (command_of w)) None (Some (command_of w))
 

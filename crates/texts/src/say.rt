@@ -111,6 +111,7 @@ fn fault(error: HexError) -> &'static [u8]
 }
 
 // The error of a text that spells no bytes; nothing where it spells some. The next place.
+// It takes the whole result of `read_hex`, and not its error alone, as its contract promises an answer to either.
 pub fn put_unread(out: &mut [u8], at: usize, number: u64, read: Result<usize, HexError>) -> usize
     requires { at < 2 ^ 60 }
     ensures { Wrote out.old at (unread_line number read) out.new result }
