@@ -8,8 +8,8 @@ use Prim.Native.Nat.{ℕ, zero, suc, ◌+◌, ◌≤◌, ◌<◌}
 use native.Mathlib.Nat.{not-suc-le-zero, le_of_suc-le-suc}
 use native.Mathlib.Numerals.{add-one}
 use native.Mathlib.Omega.{arith}
-use lib.ListN.{length, get_or, set}
-use borrow.Author.Tests.{ltb-false}
+use lib.ListN.{length, get_or, set, drop}
+use borrow.Author.Tests.{ltb-false, lt-ltb}
 use Rattle.laws.specs.Bits.{num}
 use Rattle.laws.proofs.Cases.{by_test, pick_true, pick_false}
 use Rattle.receiver.specs.Stored.{flag}
@@ -17,6 +17,7 @@ use Rattle.receiver.specs.declared.Reassembler.{Reassembler}
 use Rattle.kept.specs.Keep.{first_from, slot_of}
 use Rattle.kept.specs.Told.{is_place, has_other_flag, to_slot}
 use Rattle.kept.specs.declared.Slot.{Slot}
+use Rattle.kept.proofs.Places.{first_here}
 
 -- ---- one after the other
 
@@ -100,3 +101,11 @@ slots_same i (s ∷ ss) e =
     (λ t. ap₂ (λ (x : Slot) (l : List Slot). x ∷ l)
     (slot_same s (let h = ltb-false 1 s.receiver.overflow t in omega arith))
     (slots_same (suc i) ss (sym (ap is_place (pick_false (Some i) (first_from has_other_flag (suc i) ss) t)) ∙ e)))
+
+-- ---- a loop that looks for such a flag
+
+pub other_flag_here : (ss : List Slot) (i : ℕ) (d : Slot) → i < length ss
+    → first_from has_other_flag 0 ss ≡ first_from has_other_flag i (drop i ss)
+    → 1 < (get_or ss i d).receiver.overflow
+    → is_place (first_from has_other_flag 0 ss) ≡ true
+other_flag_here ss i d h e t = ap is_place (e ∙ first_here has_other_flag ss i d h (lt-ltb 1 _ t))

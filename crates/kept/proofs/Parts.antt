@@ -1,10 +1,10 @@
 -- The 5,000 bytes of a slot among the lent bytes, where those of one slot are written.
 -- Assumes nothing.
 use mathlib.Core.Path.{◌≡◌, refl, sym, ap, ◌∙◌}
-use mathlib.Core.List.{List, [], ◌∷◌, ◌++◌}
+use mathlib.Core.List.{List, [], ◌∷◌, ◌++◌, append-nil}
 use Prim.Native.Nat.{ℕ, suc, ◌+◌, ◌-◌, ◌*◌, ◌≤◌, ◌<◌}
 use native.Mathlib.Omega.{arith}
-use lib.ListN.{length, take, drop, set}
+use lib.ListN.{length, take, drop, set, drop_of_length-le}
 use lib.Seq.{sets, sets-eq, take_at, drop-set-lt, drop-set-add, take-set-le}
 use Rattle.laws.proofs.Cases.{by_le}
 use Rattle.laws.proofs.ListLaws.{drop_stored}
@@ -46,3 +46,14 @@ pub front_copied : (l vs ys : List ℕ) → ys ≡ vs → length vs ≤ length l
 front_copied l vs ys e h =
     let z : 0 + length vs ≡ length vs = omega arith in
     rw e (sym (sets-eq vs l 0 (omega arith) ∙ ap (λ (k : ℕ). vs ++ drop k l) z))
+
+-- a store over all of a list
+pub sets_whole : (l vs : List ℕ) → length vs ≡ length l → sets l 0 vs ≡ vs
+sets_whole l vs e =
+    sets-eq vs l 0 (omega arith)
+    ∙ ap (λ (r : List ℕ). vs ++ r) (drop_of_length-le l {i = 0 + length vs} (omega arith))
+    ∙ append-nil vs
+
+-- what is stored so is what was given
+pub stored_whole : {r ws : List ℕ} (l vs : List ℕ) → r ≡ sets l 0 vs → vs ≡ ws → length ws ≡ length l → r ≡ ws
+stored_whole l vs e q size = e ∙ ap (sets l 0) q ∙ sets_whole l _ size

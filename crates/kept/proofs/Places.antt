@@ -10,7 +10,8 @@ use native.Mathlib.Nat.{not-suc-le-zero, le_of_suc-le-suc}
 use native.Mathlib.Omega.{arith}
 use borrow.Author.Tests.{lt-ltb, le-ltb}
 use lib.Dec.{ltb}
-use lib.ListN.{length, get_or}
+use lib.ListN.{length, get_or, drop}
+use lib.Seq.{drop-cons}
 use Rattle.std.specs.List.{list_any, position_or_len}
 use Rattle.laws.specs.Pick.{pick}
 use Rattle.laws.proofs.Cases.{by_test, by_le, pick_true, pick_false}
@@ -41,6 +42,12 @@ module _ {A : Type 0} (p : A → Bool) where
 
   pub first_hit : (l : List A) (d : A) (k : ℕ) → first_from p 0 l ≡ Some k → Hit l d k
   first_hit l d k e = hit_from l d 0 k e (λ j q h. let z : k ≡ j = omega arith in rw z h)
+
+-- ---- a loop that looks at one after another
+
+pub first_here : {A : Type 0} (p : A → Bool) (l : List A) (i : ℕ) (d : A) → i < length l → p (get_or l i d) ≡ true → first_from p i (drop i l) ≡ Some i
+unfolding first_from
+first_here p l i d h e = ap (first_from p i) (drop-cons l i d h) ∙ pick_true (Some i) (first_from p (suc i) (drop (suc i) l)) e
 
 -- ---- what the library's searches find
 

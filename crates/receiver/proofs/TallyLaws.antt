@@ -36,6 +36,10 @@ or_above_l a b = omega (arith, or_add_and a b, and_le_r a b)
 or_above_r : (a b : ℕ) → b ≤ bit_or a b
 or_above_r a b = omega (arith, or_add_and a b, and_le_l a b)
 
+or_assoc : (a b c : Bool) → ((a || b) || c) ≡ (a || (b || c))
+or_assoc true b c = refl
+or_assoc false b c = refl
+
 or_none : (b : Bool) → (b || false) ≡ b
 or_none true = refl
 or_none false = refl
@@ -123,14 +127,22 @@ module _ (t : Tallies) where
         lt-leb largest t.check (omega (arith, or_above_r nvl t.check)),
       )
 
+  -- the eight tests in three groups
+  pub any_full :
+      ((((leb largest t.offered || leb largest t.more) || leb largest t.done) || (leb largest t.wrong_length || leb largest t.no_fragment))
+      || ((leb largest t.overflow || leb largest t.limit) || leb largest t.check))
+      ≡ is_full t
+  unfolding is_full
+  any_full = simp or_assoc
+
   -- the eight tests, of numbers of 64 bits
-  pub any_full : t.offered ≤ largest → t.more ≤ largest → t.done ≤ largest → t.wrong_length ≤ largest → t.no_fragment ≤ largest
+  pub any_largest : t.offered ≤ largest → t.more ≤ largest → t.done ≤ largest → t.wrong_length ≤ largest → t.no_fragment ≤ largest
       → t.overflow ≤ largest → t.limit ≤ largest → t.check ≤ largest
       → (eqb t.offered largest || (eqb t.more largest || (eqb t.done largest || (eqb t.wrong_length largest || (eqb t.no_fragment largest
       || (eqb t.overflow largest || (eqb t.limit largest || (eqb t.check largest || false))))))))
       ≡ is_full t
   unfolding is_full
-  any_full o m d w n v l k =
+  any_largest o m d w n v l k =
       simp (top_test _ o, top_test _ m, top_test _ d, top_test _ w, top_test _ n, top_test _ v, top_test _ l, top_test _ k, or_none)
 
   -- ---- one more answer
