@@ -71,7 +71,14 @@ fn is_ap(s: &[u8], at: usize, l: usize, mended: bool) -> bool
 }
 
 // Destination and source; the source is the last address where there are no digipeaters.
-fn read_ends(s: &[u8], at: usize, l: usize, last: bool, out: &mut [u8], mended: bool) -> Option<(usize, usize)>
+fn read_ends(
+    s: &[u8],
+    at: usize,
+    l: usize,
+    last: bool,
+    out: &mut [u8],
+    mended: bool,
+) -> Option<(usize, usize)>
     requires { (length s.now < 5000) × (2 ≤ l) × (l ≤ 7) }
     ensures { ReadsTo (ends_bytes l last) (unpack s.now) (read_ends mended l (drop at (unpack s.now))) out.old 0 out.new result }
 {
@@ -119,7 +126,14 @@ fn put_alias(s: &[u8], l: usize, i: usize, n: usize, k: usize, out: &mut [u8], t
 }
 
 // The digipeaters of an alias whose number was read.
-fn read_alias(s: &[u8], number: Option<(u64, usize)>, l: usize, n: usize, out: &mut [u8], to: usize) -> Option<(usize, usize)>
+fn read_alias(
+    s: &[u8],
+    number: Option<(u64, usize)>,
+    l: usize,
+    n: usize,
+    out: &mut [u8],
+    to: usize,
+) -> Option<(usize, usize)>
     requires { (length s.now < 5000) × (l ≤ 7) × (n ≤ 8) × (n ≤ length s.now * 8) × (to < 2 ^ 10) }
     ensures { (at : ℕ) → number ≡ took 3 (unpack s.now) at
         → ReadsTo (digi_bytes l (unpack s.now) n 0) (unpack s.now) (read_alias n (drop at (unpack s.now))) out.old to out.new result }
@@ -207,7 +221,13 @@ fn read_type(s: &[u8], at: usize, ap: bool) -> Option<(AprsType, usize)>
 }
 
 // What stands before the body, for n digipeaters: H bits, destination, source, digipeaters, type.
-fn read_head(s: &[u8], l: usize, n: usize, out: &mut [u8], mended: bool) -> Option<(usize, usize, AprsType)>
+fn read_head(
+    s: &[u8],
+    l: usize,
+    n: usize,
+    out: &mut [u8],
+    mended: bool,
+) -> Option<(usize, usize, AprsType)>
     requires { (length s.now < 5000) × (2 ≤ l) × (l ≤ 7) × (n ≤ 8) }
     ensures { Heads l (unpack s.now) (read_head mended l n (unpack s.now)) out.old out.new result }
 {

@@ -48,7 +48,12 @@ fn first_room(n: usize, most: usize) -> usize
 }
 
 // A frame whose record is found. The first run measures here too; what it wrote whole to the array is not coded again.
-fn encode_found(command: u8, data: &[u8], r: Record, out: &mut [u8]) -> Result<(usize, AprsType), Refusal>
+fn encode_found(
+    command: u8,
+    data: &[u8],
+    r: Record,
+    out: &mut [u8],
+) -> Result<(usize, AprsType), Refusal>
     requires { (length «data».now ≤ 4999) × (Some (record_of r) ≡ seen_of command (parse_of (call_len command) «data».now)) }
     ensures { (encoded_of result, out.new) ≡ code_into (encode_of command «data».now) out.old }
 {
@@ -106,7 +111,12 @@ fn decode_generic(message: &[u8], out: &mut [u8]) -> Result<(u8, usize), Refusal
 }
 
 // The frame of a message. The first run measures here too; what it wrote whole to the array is not read again.
-fn decode_frame(message: &[u8], command: u8, out: &mut [u8], mended: bool) -> Result<(u8, usize), Refusal>
+fn decode_frame(
+    message: &[u8],
+    command: u8,
+    out: &mut [u8],
+    mended: bool,
+) -> Result<(u8, usize), Refusal>
     requires { (0 < length message.now) × (length message.now ≤ 5000) }
     ensures { (decoded_of result, out.new) ≡ decode_into (or_seven command (read_frame mended (call_len command) (get_or message.now 0 0) (unpack (drop 1 message.now)))) out.old }
 {
@@ -114,8 +124,9 @@ fn decode_frame(message: &[u8], command: u8, out: &mut [u8], mended: bool) -> Re
     let mut scratch = [0u8; 1024];
     let room = first_room(message.len(), 1024);
     let first = &mut scratch[0..room];
-    let needed = ax25_decode::decode(&message[1..], message[0], l, first, mended)
-        .ok_or(Refusal::NotDecoded)?;
+    let needed = ax25_decode::decode(&message[1..], message[0], l, first, mended).ok_or(
+        Refusal::NotDecoded,
+    )?;
     if out.len() < needed {
         return Err(Refusal::Output);
     }
