@@ -119,7 +119,7 @@ module _ (l n : ℕ) (d : List ℕ) (b : List Bool) (at : ℕ) where
   unfolding tokens_bits
   tokens_done e = rw (fields_none l n d e) wrote_none
 
-  -- the part behind the first field
+  -- the part after the first field
   abbrev others : List ℕ
   others = take (length d - (l + 1)) (drop (l + 1) d)
 

@@ -1,4 +1,4 @@
--- A message as it is written: one byte, then bits behind it up to a whole byte.
+-- A message as it is written: one byte, then bits after it up to a whole byte.
 -- Assumes nothing.
 use mathlib.Core.Path.{◌≡◌, refl, sym, ap, ◌∙◌}
 use mathlib.Core.Bool.{Bool, false}
@@ -18,7 +18,7 @@ unfolding bits_of odd
 zero_bits zero = refl
 zero_bits (suc n) = rw (zero-div (2 ^ n)) (ap (λ (b : List Bool). false ∷ b) (zero_bits n))
 
--- one byte at the front, and more behind it
+-- one byte at the front, and more after it
 pub behind_byte : {s t u v : List ℕ} {x p next : ℕ} → Wrote s 0 (x ∷ []) t p → Wrote t 1 v u next → Wrote s 0 (x ∷ v) u next
 behind_byte {s} {t} {x = x} f g =
     let h : Wrote s 0 (x ∷ []) t 1 = record { stored = f.stored; next_is = refl } in
@@ -28,7 +28,7 @@ behind_byte {s} {t} {x = x} f g =
 pub byte_leaves : {s t : List ℕ} {x p : ℕ} → x < 256 → Bytes s → Wrote s 0 (x ∷ []) t p → Bytes t
 byte_leaves {s} {x = x} l h f = rw f.stored (bytes_set s 0 x h l)
 
--- the bits of packed bytes, written behind one byte
+-- the bits of packed bytes, written after one byte
 pub pack_wrote : (b : List Bool) {t u : List ℕ} {next : ℕ} → Bytes t → Bytes u → Wrote (unpack t) 8 (unpack (pack b)) (unpack u) next → Wrote t 1 (pack b) u (next / 8)
 pack_wrote b {t} {u} ht hu w =
     record {

@@ -151,7 +151,7 @@ unfolding texts
 empty_texts [] = refl
 empty_texts (a ∷ v) = refl
 
--- the further fields, behind an SSID byte b
+-- the further fields, after an SSID byte b
 digis_parsed : (mended : Bool) (v : List Address) (k b : ℕ) (rest : List ℕ) → AllClean mended v → length v ≤ k → odd b ≡ is_empty v
     → digi_fields 6 k b (address_field v ++ rest) ≡ Some (fields v, rest)
 unfolding digi_fields address_field fields pick

@@ -124,7 +124,7 @@ header_low command r h = by_test (eqb command Ax25Long) (λ e. rw e (ui 0x10 (om
     ui a k =
         by_test (is_ui r) (λ e. rw e (omega (arith, code (length r.digis) h))) (λ e. rw e (omega (arith, code (length r.digis) h)))
 
--- bits that fit 4,999 bytes, behind a header
+-- bits that fit 4,999 bytes, after a header
 packed_bounds : (header typ : ℕ) (o : Outcome (List Bool)) (c : Coded) → header < 0x80 → AtMost 39992 o → packed header typ o ≡ answer c → Bounds c.bytes
 packed_bounds header typ (refused n) c h m e = absurd (answer_not (sym e))
 packed_bounds header typ (answer b) c h m e =

@@ -92,7 +92,7 @@ module _ (mended : Bool) (l : ℕ) where
     (t, r₅) ← take_bits (type_width (starts (ascii "AP") d)) r₄
     pick (known t) (Some (record { dest = d; src = s; digis = v; heard = h; typ = t }, r₅)) None
 
-  -- the body, from what is left of all the bits behind the header
+  -- the body, from what is left of all the bits after the header
   unfoldable pub read_info : ℕ → List Bool → List Bool → Option (List ℕ)
   read_info typ all b =
       pick (eqb typ Text) (text7_of all (length all - length b))

@@ -56,7 +56,7 @@ module _ (l : ℕ) where
     v ← digi_bits (is_ap r) r.digis
     Some (r.heard ++ (d ++ (s ++ (v ++ bits_of (type_width (is_ap r)) typ))))
 
-  -- the body behind the bits of the head
+  -- the body after the bits of the head
   unfoldable pub info_bits : Parsed → ℕ → List Bool → Outcome (List Bool)
   info_bits r typ head =
       pick (eqb typ Text) (answer (text7_bits (length head) (last_or false head) (body_bytes r)))

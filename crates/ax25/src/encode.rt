@@ -94,7 +94,7 @@ fn put_type(t: AprsType, ap: bool, out: &mut [u8], at: usize) -> usize
     push(out, at, u64::from(u8::from(t)), if ap { 3 } else { 1 })
 }
 
-// The bits before the body, behind the header byte: H bits, destination, source, digipeaters, type.
+// The bits before the body, after the header byte: H bits, destination, source, digipeaters, type.
 fn put_head(frame: &[u8], command: u8, l: usize, r: Record, out: &mut [u8]) -> Option<usize>
     requires { (2 ≤ l) × (l ≤ 7) × (length frame.now < 2 ^ 56) × (Some (record_of r) ≡ seen_of command (parse_of l frame.now)) }
     ensures { (p : Parsed) → parse_of l frame.now ≡ Some p
@@ -143,7 +143,7 @@ fn either(b: bool, x: u8) -> u8
     if b { x } else { 0 }
 }
 
-// Where the bytes of a text or binary body start: behind control 03 and PID F0, else at control.
+// Where the bytes of a text or binary body start: after control 03 and PID F0, else at control.
 fn body_start(end: usize, ctrl: u8, pid: u8) -> usize
     requires { end < 2 ^ 60 }
     ensures { result ≡ pick (eqb ctrl 0x03 && eqb pid 0xF0) (end + 2) end }
@@ -154,7 +154,7 @@ fn body_start(end: usize, ctrl: u8, pid: u8) -> usize
     end
 }
 
-// The body behind the bits of the head.
+// The body after the bits of the head.
 fn put_body(
     frame: &[u8],
     command: u8,

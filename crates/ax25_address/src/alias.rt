@@ -66,7 +66,8 @@ fn is_alias(f: &[u8], l: usize, i: usize, k: usize) -> bool
     same_call(addr_call(f, l, false), alias_call(i, k))
 }
 
-// The calls of n fields are those of an alias, from its k-th on.
+// The calls of n fields are those of an alias, from its k-th on. It calls itself for the fields that follow: a loop would count the place of
+// each field besides, and is no plainer.
 fn are_alias(f: &[u8], l: usize, n: usize, i: usize, k: usize) -> bool
     requires { (k + n ≤ 9) × (l ≤ 7) × (i < 5) × (n * (l + 1) ≤ length f.now) × (length f.now < 2 ^ 60) }
     ensures { result ≡ same_all (map (addr_call l) (fields_of l n f.now)) (alias_calls (get_or aliases i []) k n) }

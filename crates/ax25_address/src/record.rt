@@ -29,7 +29,7 @@ pub struct Record {
     pub aprs_type: AprsType,
 }
 
-// The letters of a call: 7 under Ax25Long.
+// The letters of a call: 7 under Ax25Long. A command is any byte here, as in the public calls: an enum would ask more of their callers.
 #[tactic(auto, unfolding(laws::specs::Pick::pick))]
 pub fn call_len(command: u8) -> usize
     ensures { result ≡ call_len command }

@@ -31,7 +31,7 @@ use Rattle.ax25_aprs.proofs.PlaceBack.{six_lt, place_back}
 use Rattle.ax25_aprs.proofs.Sizes.{body_size_long}
 use Rattle.ax25_aprs.proofs.CallLaws.{call_nine, call_filled}
 
--- the body after its type byte has bits, and they are read as the information, with zeros behind them
+-- the body after its type byte has bits, and they are read as the information, with zeros after them
 pub record BodyBack (mended : Bool) (typ l : ℕ) (info : List ℕ) : Type 0 where
   pub coded : List Bool
   pub is_coded : body_bits typ l (drop 1 info) ≡ answer coded

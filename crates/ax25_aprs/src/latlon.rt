@@ -24,7 +24,8 @@ fn lat(s: &[u8]) -> u64
     bits::vb_val(&d)
 }
 
-// The seven digits of DDDMM.mm as a number.
+// The seven digits of DDDMM.mm as a number. It has places of its own: one function for both would take each of them as a parameter, and is no
+// plainer.
 fn lon(s: &[u8]) -> u64
     requires { 19 ≤ length s.now }
     ensures { result ≡ val_of (take 5 (drop 9 s.now) ++ take 2 (drop 15 s.now)) }

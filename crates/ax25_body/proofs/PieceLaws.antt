@@ -131,7 +131,7 @@ module _ (l : ℕ) (f : Field) (d : List ℕ) (b : List Bool) (at : ℕ) (c : Li
     pub coded_near : p ≤ at + 64
     coded_near = omega (arith, h.wrote.next_is, h.few)
 
-    -- what follows the field is coded behind it
+    -- what follows the field is coded after it
     pub does_field : (next : List ℕ → Outcome (List Bool)) (e : List Bool) (r : Result ℕ Refusal) → Does (next (drop i d)) c p e r → Does (call_field l f d next) b at e r
     does_field next e r k = rw (h.is, field_is l d h.end i next, h.coded) (does_then h.wrote (next (drop i d)) e r k)
 

@@ -33,7 +33,7 @@ read_position b = do
   t ← read_latlon b
   Some (0x21 ∷ t)
 
--- the end of a third-party body's head, and the inner body behind its type in two bits
+-- the end of a third-party body's head, and the inner body after its type in two bits
 unfoldable pub read_inner : Bool → ℕ → List Bool → Option (List ℕ)
 read_inner mended l b = do
   (k, r) ← take_bits 2 b

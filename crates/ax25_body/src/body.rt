@@ -27,7 +27,7 @@ pub(crate) fn put_trimmed(s: &[u8], l: usize, out: &mut [u8], at: usize) -> Opti
     put_call(trimmed(s), l, out, at)
 }
 
-// A message behind its type byte: the token of its addressee, and the text behind the second ':'.
+// A message after its type byte: the token of its addressee, and the text after the second ':'.
 pub fn message_encode(s: &[u8], l: usize, out: &mut [u8], at: usize) -> Result<usize, Refusal>
     requires { (length s.now < 2 ^ 56) × (at < 2 ^ 59) × (2 ≤ l) × (l ≤ 7) }
     ensures { Does (message_bits l s.now) (unpack out.old) at (unpack out.new) result }

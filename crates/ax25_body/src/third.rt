@@ -60,7 +60,7 @@ fn inner_encode(d: &[u8], l: usize, out: &mut [u8], at: usize) -> Result<usize, 
     body::aprs_encode(inner_type(k), d, l, out, p)
 }
 
-// The third call, up to '*', behind which one byte is skipped, and the inner body.
+// The third call, up to '*', after which one byte is skipped, and the inner body.
 fn last_encode(d: &[u8], l: usize, out: &mut [u8], at: usize) -> Result<usize, Refusal>
     requires { (length d.now < 2 ^ 56) × (at < 2 ^ 57) × (2 ≤ l) × (l ≤ 7) }
     ensures { Does (last_field l (collect_of 0x2A 10 d.now) d.now) (unpack out.old) at (unpack out.new) result }
@@ -111,7 +111,7 @@ pub fn third_encode(d: &[u8], l: usize, out: &mut [u8], at: usize) -> Result<usi
     first_encode(&d[1..], l, out, at)
 }
 
-// A text, and behind it the call that stands from a bit on; where there is none, nothing is said of the output.
+// A text, and after it the call that stands from a bit on; where there is none, nothing is said of the output.
 fn call_decode(
     s: &[u8],
     at: usize,
@@ -145,7 +145,7 @@ fn inner_type(k: u64) -> AprsType
     }
 }
 
-// The end of the head, and the inner body that stands from a bit on behind its type in two bits.
+// The end of the head, and the inner body that stands from a bit on after its type in two bits.
 fn inner_decode(
     s: &[u8],
     at: usize,

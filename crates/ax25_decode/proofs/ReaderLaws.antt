@@ -127,7 +127,7 @@ digis_cons l b m k c cs =
     let others : drop 1 (take (suc m) (drop k b)) ≡ take m (drop (k + 1) b) = drop_one m (drop k b) ∙ ap (take m) (drop-drop 1 k b) in
     ap₂ (λ (x : Bool) (hs : List Bool). marked l x (is_empty cs) (call_bytes l c) ++ addresses l cs hs) first others
 
--- the last of n + 1 digipeaters has none behind it
+-- the last of n + 1 digipeaters has none after it
 last_is : (cs : List (List ℕ)) (m : ℕ) → length cs ≡ m → eqb (suc m) 1 ≡ is_empty cs
 last_is [] m e = rw (← e)
 last_is (c ∷ cs) m e = ne_eqb (suc m) 1 (omega (arith, e))

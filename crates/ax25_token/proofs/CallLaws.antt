@@ -1,4 +1,4 @@
--- Laws of calls in 16 bytes, of answers that put a reading behind what a call holds, and of tables of calls.
+-- Laws of calls in 16 bytes, of answers that put a reading after what a call holds, and of tables of calls.
 -- Assumes nothing.
 use mathlib.Core.Path.{◌≡◌, refl, sym, ap, ap₂, ◌∙◌}
 use mathlib.Core.Bool.{Bool, true, ◌&&◌}
@@ -70,7 +70,7 @@ text_back t h = text_grows t empty refl (omega arith)
 abbrev pub taken_at : List Bool → ℕ → ℕ → Option (ℕ × ℕ)
 taken_at b at n = taken (at + n) (take_bits n (drop at b))
 
--- an answer is that reading behind what a call holds, of at most n bytes more
+-- an answer is that reading after what a call holds, of at most n bytes more
 abbrev pub Onto : List Bool → Call → ℕ → Option (List ℕ × List Bool) → Option (Call × ℕ) → Type 0
 Onto b c n o r = (call_of b r ≡ behind_call c o) × UpTo (c.len + n) r
 

@@ -20,7 +20,7 @@ use Rattle.bits.proofs.ReadLaws.{take_yes, take_no, text_yes, text_no}
 use Rattle.ax25_token.specs.Tables.{call_alphabet, long, sym_of, alpha_of, Numbered, wide_tokens, wide_row, pair_rows, fixed_rows, numbered_rows}
 use Rattle.ax25_token.specs.Token.{hyphened, base_of, behind, number_at, two_digits, decimal, suffix, pair_bits, takes, numbered_bits, spell, ending, plain_ap, ap_bits, spelled_bits, token_bits, after, Form, spelled, paired, named, counted, begun, no_token, pair_form, fixed_form, numbered_form, symbol_form, form_of, wide_number, read_pair, read_number, letter_of, go_on, read_letters, read_spelled, read_form, read_token}
 
--- ---- a number behind a name
+-- ---- a number after a name
 
 module _ (v : ℕ) where
   pub suffix_none : v ≡ 0 → suffix v ≡ []

@@ -1,4 +1,4 @@
--- Clean letters, and the text of a call of clean letters: what stands before and behind its hyphen.
+-- Clean letters, and the text of a call of clean letters: what stands before and after its hyphen.
 -- Assumes nothing.
 use mathlib.Core.Path.{◌≡◌, refl, sym, ap₂, ◌∙◌}
 use mathlib.Core.Logic.{◌⊎◌, inl, inr}
@@ -113,7 +113,7 @@ pub upper_clean : (c : List ℕ) → clean_letters c ≡ true → map upper c �
 upper_clean [] e = refl
 upper_clean (x ∷ c) e = ap₂ (λ (u : ℕ) (us : List ℕ). u ∷ us) (clean_head x c e).upper_is (upper_clean c (clean_rest x c e))
 
--- whatever stands behind clean letters
+-- whatever stands after clean letters
 pub base_clean : (c t : List ℕ) → clean_letters c ≡ true → base_of (c ++ t) ≡ c ++ base_of t
 unfolding base_of pick
 base_clean [] t e = refl

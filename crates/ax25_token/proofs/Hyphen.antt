@@ -1,4 +1,4 @@
--- The first hyphen of a text: what stands before it and behind it.
+-- The first hyphen of a text: what stands before it and after it.
 -- Assumes nothing.
 use mathlib.Core.Path.{◌≡◌, refl}
 use mathlib.Core.Bool.{false}
@@ -22,7 +22,7 @@ pub suffix_base : (s : ℕ) → base_of (suffix s) ≡ []
 unfolding suffix base_of pick
 suffix_base s = by_test (eqb s 0) (λ e. rw e) (λ e. rw e)
 
--- the number behind a text adds nothing
+-- the number after a text adds nothing
 pub base_suffix : (t : List ℕ) (s : ℕ) → length (base_of (t ++ suffix s)) ≤ length t
 unfolding base_of pick
 base_suffix [] s = rw (suffix_base s) (omega arith)

@@ -45,7 +45,7 @@ module _ (n c : List ℕ) where
   one_other [] e = refl
   one_other (t ∷ ts) e = rw (same_other t e, one_other ts e)
 
-  -- what stands behind the name, as a part of the call
+  -- what stands after the name, as a part of the call
   rest : take (length c - length n) (drop (length n) c) ≡ drop (length n) c
   rest = take_all (length c - length n) (drop (length n) c) (omega (arith, length-drop (length n) c))
 
@@ -71,7 +71,7 @@ module _ (c : List ℕ) where
   unfolding wide_tokens wide_ends
   wide_other e = one_other (ascii "WIDE") c wide_ends e
 
--- the first four of the texts behind WIDE, and the last four
+-- the first four of the texts after WIDE, and the last four
 module _ (t : List ℕ) where
   abbrev low : Bool
   low = is_one_of t (ascii "1-1" ∷ ascii "1" ∷ ascii "1-2" ∷ ascii "1-3" ∷ [])

@@ -18,7 +18,7 @@ use Rattle.ax25_token.specs.Token.{Form, paired, named, counted, form_of, after,
 use Rattle.ax25_token.proofs.Cases.{name_at, form_spelled, form_name_lem, form_ap_name, form_ap, form_none, token_short, token_form, read_spelled_lem, read_pair_lem, read_name, read_number_lem, read_ap, read_none}
 use Rattle.ax25_token.proofs.CallLaws.{taken_at, Onto, behind_after, onto_nothing, onto_next, onto_text, longer}
 
--- a reading behind a name
+-- a reading after a name
 onto_after : (b : List Bool) (m k : ℕ) (n : List ℕ) (o u : Option (List ℕ × List Bool)) (d : Call) (r : Option (Call × ℕ)) → u ≡ after n o
     → d ≡ appended empty n → d.len + k ≤ m → Onto b d k o r → Onto b empty m u r
 onto_after b m k n o u d r f e h i =

@@ -34,7 +34,7 @@ unfoldable pub texts : Option (Call × List Bool) → Option (List ℕ × List B
 texts None = None
 texts (Some p) = Some (text_of p.0, p.1)
 
--- a reading, its text behind what a call holds
+-- a reading, its text after what a call holds
 unfoldable pub behind_call : Call → Option (List ℕ × List Bool) → Option (Call × List Bool)
 behind_call c None = None
 behind_call c (Some p) = Some (appended c p.0, p.1)

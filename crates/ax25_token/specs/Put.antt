@@ -20,7 +20,7 @@ Puts b at None d None = Unit {0}
 Puts b at (Some x) d (Some p) = Wrote b at x d p
 Puts b at (Some x) d None = ⊥
 
--- what stands behind WIDE in WIDE_TOKENS
+-- what stands after WIDE in WIDE_TOKENS
 unfoldable pub wide_ends : List (List ℕ)
 wide_ends =
     ascii "1-1" ∷ ascii "1" ∷ ascii "1-2" ∷ ascii "1-3"

@@ -11,7 +11,7 @@ use Rattle.ax25_token.specs.Tables.{call_alphabet, long, sym_of, alpha_of, Pair,
 
 -- ---- the text of a call
 
--- a hyphen is in it; what stands before the first, and behind it
+-- a hyphen is in it; what stands before the first, and after it
 unfoldable pub hyphened : List ℕ → Bool
 hyphened [] = false
 hyphened (x ∷ xs) = eqb x 45 || hyphened xs

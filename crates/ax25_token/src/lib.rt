@@ -109,7 +109,7 @@ fn letter(v: u64) -> u8
     CALL_ALPHABET[v as usize]
 }
 
-// At most n letters, up to a blank, behind what the call holds. A code that is no letter ends a strict reading; another skips it.
+// At most n letters, up to a blank, after what the call holds. A code that is no letter ends a strict reading; another skips it.
 fn letters(s: &[u8], at: usize, n: usize, strict: bool, c: Call) -> Option<(Call, usize)>
     requires { (length s.now < 2 ^ 60) × (c.len + n ≤ 16) }
     ensures { (call_of (unpack s.now) result ≡ behind_call c (read_letters strict n (drop at (unpack s.now)))) × UpTo (c.len + n) result }

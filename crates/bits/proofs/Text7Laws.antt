@@ -128,7 +128,7 @@ unfolding text7_of
 text7_run p [] k at = rw (last_run p k, end_pad p [] (suc k))
 text7_run p (x ∷ b) k at = rw (last_pad x p b k, end_pad p (x ∷ b) (suc k))
 
--- a text written behind any bits is read from its place
+-- a text written after any bits is read from its place
 pub text7_back : (b : List Bool) (cs : List ℕ) → Sevens cs → text7_of (b ++ text7_bits (length b) (last_or false b) cs) (length b) ≡ Some cs
 unfolding text7_bits
 text7_back b cs h =

@@ -19,7 +19,7 @@ use Rattle.bits.specs.Read.{numbers}
 
 -- ---- a part of a word
 
--- k bits of a number, behind m and in front of j
+-- k bits of a number, after m and in front of j
 pub mid_bits : (m k j v : ℕ) → take k (drop m (bits_of (m + (k + j)) v)) ≡ bits_of k (v / 2 ^ j)
 mid_bits m k j v =
     rw (bits_append m (k + j) v, drop_at (bits_of m (v / 2 ^ (k + j))) (bits_of (k + j) v) m (length_bits m (v / 2 ^ (k + j))), bits_append k j v)
@@ -32,7 +32,7 @@ front_part (suc o) n m [] h = ap (λ (l : List Bool). take n (drop (suc o) l)) (
 front_part (suc o) n zero (x ∷ l) h = absurd (omega arith)
 front_part (suc o) n (suc m) (x ∷ l) h = front_part o n m l (omega arith)
 
--- n bits behind o in the first w, which a number holds
+-- n bits after o in the first w, which a number holds
 part_in : (l : List Bool) (o n w v : ℕ) → o + n ≤ w → bits_of w v ≡ take w l → bits_of n (v / 2 ^ (w - (o + n))) ≡ take n (drop o l)
 part_in l o n w v h e =
     let j = w - (o + n) in
@@ -53,7 +53,7 @@ pub part_of : (b : List Bool) (at n w : ℕ) → at % 8 + n ≤ 64 → bits_of 6
     → bits_of n (w / 2 ^ (64 - (at % 8 + n))) ≡ take n (drop at b)
 part_of b at n w h e = part_at b at (at / 8) n w (64 - (at % 8 + n)) (omega arith) (omega arith) e
 
--- ---- a word and the byte behind it
+-- ---- a word and the byte after it
 
 module _ (o w v x : ℕ) (h : o ≤ 8) (k : o ≤ w) (lt : x < 256) where
   pub behind_lt : v * 2 ^ o % 2 ^ w + x / 2 ^ (8 - o) < 2 ^ w
@@ -61,7 +61,7 @@ module _ (o w v x : ℕ) (h : o ≤ 8) (k : o ≤ w) (lt : x < 256) where
       let e : (w - o) + o ≡ w = omega arith in
       rw e at (shift_lt (w - o) o v (first_lt x h lt))
 
-  -- the w bits behind the first o
+  -- the w bits after the first o
   pub behind : (l : List Bool) → bits_of w v ≡ take w l → bits_of 8 x ≡ take 8 (drop w l) → bits_of w (v * 2 ^ o % 2 ^ w + x / 2 ^ (8 - o)) ≡ take w (drop o l)
   behind l f g =
       let e : (w - o) + o ≡ w = omega arith in

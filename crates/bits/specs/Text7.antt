@@ -11,7 +11,7 @@ unfoldable pub differ : Bool → Bool → Bool
 differ true b = not b
 differ false b = b
 
--- the count of bits with one more in front: it counts where one behind it does, or where it differs
+-- the count of bits with one more in front: it counts where one after it does, or where it differs
 unfoldable pub counted : Bool → ℕ → ℕ
 counted d zero = num d
 counted d (suc e) = suc (suc e)

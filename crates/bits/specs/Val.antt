@@ -7,7 +7,7 @@ use Rattle.laws.specs.Pick.{pick}
 unfoldable pub stops : ℕ → Bool
 stops c = pick (eqb c 32) false (pick (ltb c 48) true (ltb 57 c))
 
--- the number with one byte more: a blank leaves it, a digit goes behind it
+-- the number with one byte more: a blank leaves it, a digit goes after it
 unfoldable pub next_val : ℕ → ℕ → ℕ
 next_val a c = pick (eqb c 32) a (min (a * 10 + (c - 48)) 0xffff_ffff_ffff_ffff)
 

@@ -59,7 +59,7 @@ bytes_parts s k = rw (from_place s k, unpack_drop k s) (take-append-drop (k * 8)
 
 -- ---- bits carried to the next block
 
--- o bits a are carried; n bits b come behind them: of the o + n bits the first n are one part, and the last o the other
+-- o bits a are carried; n bits b come after them: of the o + n bits the first n are one part, and the last o the other
 pub carry : (o n a : ℕ) {b : ℕ} → b < 2 ^ n → bits_of n ((a * 2 ^ n + b) / 2 ^ o) ++ bits_of o ((a * 2 ^ n + b) % 2 ^ o) ≡ bits_of o a ++ bits_of n b
 carry o n a {b} h =
     let x = a * 2 ^ n + b in
@@ -83,7 +83,7 @@ carry_lt o w a {b} h lt =
 pub carried_lt : (a : ℕ) {o : ℕ} → o < 8 → a < 2 ^ o → a < 128
 carried_lt a {o} h k = lt_of_lt_of_le k (pow_mono {i = o} {j = 7} (omega arith))
 
--- with the carried bits t is written at q; more come behind it
+-- with the carried bits t is written at q; more come after it
 pub block_on : (d l : List Bool) (q p o n a y z : ℕ) (t more : List Bool) → p + o ≡ q + length t → sets l p (bits_of o a) ≡ sets d q t
     → bits_of n y ++ bits_of o z ≡ bits_of o a ++ more → sets (sets l p (bits_of n y)) (p + n) (bits_of o z) ≡ sets d q (t ++ more)
 block_on d l q p o n a y z t more e f g =

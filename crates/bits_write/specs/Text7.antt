@@ -22,7 +22,7 @@ unfoldable pub last_or : Bool → List Bool → Bool
 last_or d [] = d
 last_or d (x ∷ xs) = last_or x xs
 
--- what `push_text7` writes behind `at` bits, the last of which is `last` (false where there is none): the text, "then one or more pad bits
+-- what `push_text7` writes after `at` bits, the last of which is `last` (false where there is none): the text, "then one or more pad bits
 -- up to a whole byte; the pad is the opposite of the last bit written, or 1 if there is none"
 unfoldable pub text7_bits : ℕ → Bool → List ℕ → List Bool
 text7_bits at last cs = sevens cs ++ replicate (8 - (at + length cs * 7) % 8) (not (last_or last (sevens cs)))

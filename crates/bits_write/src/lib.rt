@@ -73,7 +73,7 @@ fn put_part(out: &mut [u8], at: usize, v: u64, m: usize)
     }
 }
 
-// The low n bits of v. The next position.
+// The low n bits of v. The next position. It goes by as many bits as fit the byte, so that no `for` counts them.
 pub fn push(out: &mut [u8], at: usize, v: u64, n: usize) -> usize
     requires { (n ≤ 64) × (at < 2 ^ 62) }
     ensures wrote { Wrote (unpack out.old) at (bits_of n v) (unpack out.new) result }

@@ -1,5 +1,5 @@
 -- The fold. Over two elements the polynomial's 64th power is the polynomial in x ^ 64, so 1024 steps come to 768 steps, 320 and none, joined:
--- a byte with 128 behind it may be left out where those 32, 88 and 128 places on are joined with it.
+-- a byte with 128 after it may be left out where those 32, 88 and 128 places on are joined with it.
 -- Assumes nothing.
 use mathlib.Core.Path.{◌≡◌, refl, sym, ap, ap₂, ◌∙◌}
 use mathlib.Core.List.{List, [], ◌∷◌, ◌++◌, append_assoc, append-nil}
@@ -126,7 +126,7 @@ twice_goes u v w =
     ∙ ap (λ (x : ℕ). bit_xor x w) (xor_self (bit_xor u v))
     ∙ xor_zero_l w
 
--- a byte more behind bytes
+-- a byte more after bytes
 from_last : (l : List ℕ) (b : ℕ) → crc_from 0 (l ++ (b ∷ [])) ≡ crc_steps 8 (bit_xor (crc_from 0 l) (b * 256))
 unfolding crc_from crc_byte
 from_last l b = from_append 0 l (b ∷ [])
@@ -155,12 +155,12 @@ module _ (a : ℕ) (m : List ℕ) (full : length m ≡ 127) (ha : a < 256) (hm :
       ∙ cross_three (crc_steps 320 (a * 256)) (crc_from 0 (take 39 m)) (crc_steps 768 (a * 256)) (crc_from 0 (take 95 m)) (crc_steps 1024 (a * 256)) (crc_from 0 m)
       ∙ ap (λ (x : ℕ). bit_xor x (bit_xor (bit_xor (crc_from 0 (take 39 m)) (crc_from 0 (take 95 m))) (crc_from 0 m))) (three_all (a * 256) (omega arith))
 
-  -- its k + 1 first bytes, once one more stands behind them
+  -- its k + 1 first bytes, once one more stands after them
   part_slid : (k x : ℕ) → k < 127 → crc_from 0 (take (suc k) (m ++ (x ∷ []))) ≡ crc_steps 8 (bit_xor (crc_from 0 (take k m)) (get_or m k 0 * 256))
   part_slid k x h =
       ap (crc_from 0) (take-append-le (suc k) m (x ∷ []) (omega arith) ∙ take-suc m k 0 (omega arith)) ∙ from_last (take k m) (get_or m k 0)
 
-  -- it goes and another comes behind
+  -- it goes and another comes after
   slid : (d x : ℕ) → d < 256 → x ≡ bit_xor (bit_xor (bit_xor d a) (get_or m 39 0)) (get_or m 95 0) → held (m ++ (x ∷ [])) ≡ crc_byte (held (a ∷ m)) d
   unfolding held crc_byte
   slid d x hd e =

@@ -211,7 +211,7 @@ two_first c a b hc ha hb =
     ∙ ap (λ (x : ℕ). bit_xor x (pair_of 0 a b)) (pair_halves h l (omega arith) (omega arith))
     ∙ pairs_join h l a b (omega arith) (omega arith) ha hb
 
--- two bytes of zeros more behind a pair
+-- two bytes of zeros more after a pair
 pub pair_on : (k a b : ℕ) → a < 256 → b < 256 → crc_steps 16 (pair_of k a b) ≡ pair_of (k + 2) a b
 unfolding pair_of
 pair_on k a b ha hb =
@@ -227,7 +227,7 @@ pair_lt k a b ha hb =
     (steps_lt ((k + 2) * 8) (a * 256) (omega arith))
     (steps_lt ((k + 1) * 8) (b * 256) (omega arith))
 
--- two bytes more behind two numbers that are joined
+-- two bytes more after two numbers that are joined
 joined_on : (x y a b : ℕ) → x < 0x10000 → y < 0x10000 → a < 256 → b < 256
     → crc_byte (crc_byte (bit_xor x y) a) b ≡ bit_xor (bit_xor (crc_steps 16 x) (crc_steps 16 y)) (pair_of 0 a b)
 joined_on x y a b hx hy ha hb =

@@ -23,6 +23,6 @@ rows_from (suc n) xs = four_on xs ++ rows_from n (four_on xs)
 unfoldable pub rows : List ℕ
 rows = rows_from 16 (tops 16 0)
 
--- what the bytes a and b come to, each in the high half when its turn comes, with k bytes of zeros behind them
+-- what the bytes a and b come to, each in the high half when its turn comes, with k bytes of zeros after them
 unfoldable pub pair_of : ℕ → ℕ → ℕ → ℕ
 pair_of k a b = bit_xor (crc_steps ((k + 2) * 8) (a * 256)) (crc_steps ((k + 1) * 8) (b * 256))

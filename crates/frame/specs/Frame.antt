@@ -8,7 +8,7 @@ use Rattle.refusals.specs.Limits.{field_ok}
 use Rattle.refusals.specs.Outcome.{Outcome, refused, answer}
 use Rattle.frame.specs.declared.Control.{Control}
 
--- the byte behind a fragment that is shorter than its field
+-- the byte after a fragment that is shorter than its field
 abbrev pub terminator : ℕ
 terminator = 0x14
 

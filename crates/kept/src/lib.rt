@@ -11,7 +11,8 @@ ghost use Rattle.kept.specs.Told.{beside, is_place, has_other_flag, to_slot, to_
 use receiver::{Reassembler, Stored, Tallies};
 use refusals::Refusal;
 
-// A state under a name of 1 to 8 bytes. A slot whose name has another length is free, whatever else it holds.
+// A state under a name of 1 to 8 bytes. A slot whose name has another length is free, whatever else it holds. It crosses
+// to C, so that its name is an array with a length.
 #[repr(C)]
 #[derive(Clone, Copy)]
 pub struct Slot {

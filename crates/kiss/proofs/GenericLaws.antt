@@ -29,7 +29,7 @@ generic_low : (d : List ℕ) → any_high d ≡ false → 0x21 ∷ pack (text7_b
 unfolding generic_of
 generic_low d e = sym (pick_false _ _ e)
 
--- the bits of a text written behind one byte are its packed bytes
+-- the bits of a text written after one byte are its packed bytes
 text_wrote : (d : List ℕ) {t u : List ℕ} {next : ℕ} → Bytes t → Bytes u
     → Wrote (unpack t) 8 (text7_bits 8 false d) (unpack u) next → Wrote t 1 (pack (text7_bits 0 false d)) u (next / 8)
 text_wrote d ht hu w =
@@ -54,7 +54,7 @@ unfolding text7_next text7_left
 left_wrote None e = record { stored = e; next_is = refl }
 left_wrote (Some t) e = record { stored = e; next_is = refl }
 
--- the part of a message behind its first byte
+-- the part of a message after its first byte
 abbrev rest : List ℕ → List ℕ
 rest m = take (length m - 1) (drop 1 m)
 

@@ -20,7 +20,7 @@ digits_head c s h = h 0 (omega arith)
 pub digits_tail : (c : ℕ) (s : List ℕ) → Digits (c ∷ s) → Digits s
 digits_tail c s h i k = h (suc i) (suc-le-suc k)
 
--- the digit that has n behind it, and those
+-- the digit that has n after it, and those
 mod_ten : (v n : ℕ) → v % 10 ^ suc n ≡ (v / 10 ^ n % 10) * 10 ^ n + v % 10 ^ n
 mod_ten v n = rw pow-succ' (mod-mul v (omega arith) (ten_pos n))
 

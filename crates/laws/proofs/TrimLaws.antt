@@ -1,4 +1,4 @@
--- Numbers in a range, and trimming: of a text with nothing to trim only blanks behind it go.
+-- Numbers in a range, and trimming: of a text with nothing to trim only blanks after it go.
 -- Assumes nothing.
 use mathlib.Core.Path.{◌≡◌, refl}
 use mathlib.Core.Bool.{Bool, true, false}

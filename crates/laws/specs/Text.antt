@@ -51,7 +51,7 @@ unfoldable pub position : ℕ → List ℕ → Option ℕ
 position x [] = None
 position x (y ∷ ys) = pick (eqb x y) (Some 0) (later (position x ys))
 
--- blanks behind a text up to n bytes
+-- blanks after a text up to n bytes
 unfoldable pub filled : ℕ → List ℕ → List ℕ
 filled n s = s ++ replicate (n - length s) 32
 

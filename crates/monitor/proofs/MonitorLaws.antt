@@ -43,7 +43,7 @@ module _ (heard later : Bool) where
 -- ---- n address fields, of which d starts at the first
 
 module _ (l n : ℕ) (d : List ℕ) where
-  -- the part behind the first field
+  -- the part after the first field
   abbrev others : List ℕ
   others = take (length d - (l + 1)) (drop (l + 1) d)
 
@@ -73,7 +73,7 @@ module _ (l n : ℕ) (d : List ℕ) where
         rw (heard_some l n d h, calls_some l n d h)
         (wrote_then w (wrote_then (rw (map_plain (addr_call l d)) at x) (wrote_then (rw (told, from_place d (l + 1)) at y) (rw (from_place d (l + 1)) at z))))
 
--- how much stands behind a place
+-- how much stands after a place
 pub behind_size : (d : List ℕ) (k : ℕ) → length (take (length d - k) (drop k d)) ≡ length d - k
 behind_size d k = ap length (from_place d k) ∙ length-drop k d
 

@@ -12,11 +12,11 @@ unfoldable pub any_of : List Bool → Bool
 any_of [] = false
 any_of (h ∷ hs) = h || any_of hs
 
--- a star where the H bit is set and none behind it is
+-- a star where the H bit is set and none after it is
 unfoldable pub star_of : Bool → Bool → List ℕ
 star_of heard later = pick (heard && not later) (ascii "*") []
 
--- "SRC>DEST,DIGI*,DIGI": each digipeater behind a comma, by its text and its H bit
+-- "SRC>DEST,DIGI*,DIGI": each digipeater after a comma, by its text and its H bit
 unfoldable pub via_of : List (List ℕ) → List Bool → List ℕ
 via_of [] hs = []
 via_of (c ∷ cs) [] = []

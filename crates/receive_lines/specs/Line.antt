@@ -22,7 +22,7 @@ use Rattle.monitor.specs.Monitor.{monitor_of}
 unfoldable pub readable_of : ℕ → List ℕ → List ℕ
 readable_of command d = pick (eqb command 2) (shown d) (monitor_of (call_len command) d)
 
--- "done" and the line that `send` takes; then, behind two blanks, what people read
+-- "done" and the line that `send` takes; then, after two blanks, what people read
 unfoldable pub done_text : ℕ → List ℕ → List ℕ
 done_text command d =
     ascii "done " ++ (spelled_of command d ++ ((10 ∷ 32 ∷ 32 ∷ []) ++ (readable_of command d ++ (10 ∷ []))))

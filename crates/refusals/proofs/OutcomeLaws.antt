@@ -68,7 +68,7 @@ module _ (v out : List ℕ) where
   unfolding into pick
   into_fits h = rw (le-ltb (length out) (length v) h)
 
-  -- the bytes were written from the front, and the place behind them is the answer
+  -- the bytes were written from the front, and the place after them is the answer
   pub into_wrote : {now : List ℕ} {next : ℕ} → length v ≤ length out → Wrote out 0 v now next → left (answer (length v)) now ≡ into (answer v) out
   into_wrote h w = rw (into_fits h, w.stored)
 

@@ -33,7 +33,7 @@ span_extra true c = omega (arith, span_le true c)
 
 -- ---- a text
 
--- nothing is left behind the last bit
+-- nothing is left after the last bit
 from_none : (p : Bool) (k : ℕ) (b : List Bool) → length b ≤ k → length (read_from p k b) ≡ 0
 unfolding read_from
 from_none p k [] h = refl

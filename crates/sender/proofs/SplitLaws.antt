@@ -17,7 +17,7 @@ use Rattle.sender.proofs.SendLaws.{lead_more, lead_last, fragment_single, fragme
 
 -- ---- what fragments carry
 
--- fragments one behind the other, each without its first byte
+-- fragments one after the other, each without its first byte
 unfoldable pub tails : List (List ℕ) → List ℕ
 tails [] = []
 tails (f ∷ fs) = drop 1 f ++ tails fs
@@ -28,8 +28,8 @@ last_of [] = []
 last_of (f ∷ []) = f
 last_of (f ∷ g ∷ fs) = last_of (g ∷ fs)
 
--- the first byte of the last fragment; then of one fragment alone all behind its first byte, of several all behind the first two
--- bytes of the first and behind the first byte of the others
+-- the first byte of the last fragment; then of one fragment alone all after its first byte, of several all after the first two
+-- bytes of the first and after the first byte of the others
 unfoldable pub carried_by : List (List ℕ) → List ℕ
 carried_by [] = []
 carried_by (f ∷ []) = get_or f 0 0 ∷ drop 1 f
@@ -45,7 +45,7 @@ carried_one b bs = refl
 
 -- ---- pieces
 
--- lists one behind the other
+-- lists one after the other
 joined : List (List ℕ) → List ℕ
 joined [] = []
 joined (p ∷ ps) = p ++ joined ps
@@ -89,7 +89,7 @@ module _ (first : ℕ) where
   led_count (p ∷ []) = refl
   led_count (p ∷ q ∷ ps) = ap suc (led_count (q ∷ ps))
 
-  -- element k has the first byte of fragment k, and piece k behind it
+  -- element k has the first byte of fragment k, and piece k after it
   led_at : (k : ℕ) (ps : List (List ℕ)) → k < length ps → get_or (led first ps) k [] ≡ lead_of first k (length ps) ∷ get_or ps k []
   unfolding led
   led_at k [] h = absurd (omega arith)

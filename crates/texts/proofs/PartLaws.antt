@@ -28,7 +28,7 @@ module _ (b : ℕ) (s : List ℕ) (i : ℕ) where
   unfolding before pick
   before_on h e = rw (drop-cons s i 0 h, ne_eqb (get_or s i 0) b e, add-one i)
 
--- what stands before b, and behind it, by the length of the first
+-- what stands before b, and after it, by the length of the first
 before_take : (b : ℕ) (s : List ℕ) → take (length (before b s)) s ≡ before b s
 unfolding before pick
 before_take b [] = refl

@@ -14,11 +14,11 @@ numeral_from (suc k) n = pick (ltb n 10) ((48 + n) ∷ []) (numeral_from k (n / 
 unfoldable pub numeral_of : ℕ → List ℕ
 numeral_of n = numeral_from 20 n
 
--- a number with a digit behind it
+-- a number with a digit after it
 unfoldable pub with_digit : ℕ → ℕ → ℕ
 with_digit v c = v * 10 + (c - 48)
 
--- a number with digits behind it; none where there is another byte, or more than 64 bits
+-- a number with digits after it; none where there is another byte, or more than 64 bits
 unfoldable pub number_from : ℕ → List ℕ → Option ℕ
 number_from v [] = Some v
 number_from v (c ∷ s) = pick (is_digit c && ltb (with_digit v c) (2 ^ 64)) (number_from (with_digit v c) s) None

@@ -3,7 +3,7 @@
 use Rattle.std.specs.Prelude.{List, [], ◌∷◌, ℕ, zero, suc, eqb}
 use Rattle.laws.specs.Pick.{pick}
 
--- what stands before the first b, all where there is none; and behind it, nothing where there is none
+-- what stands before the first b, all where there is none; and after it, nothing where there is none
 unfoldable pub before : ℕ → List ℕ → List ℕ
 before b [] = []
 before b (x ∷ s) = pick (eqb x b) [] (x ∷ before b s)

@@ -29,7 +29,7 @@ named_of w = pick (ltb 2 (command_of w)) None (Some (command_of w))
 unfoldable pub digits_of : List ℕ → List ℕ
 digits_of d = pick (eqb (length d) 0) [] (32 ∷ hex_of d)
 
--- the line of bytes under a command, which `receive` writes behind `done ` and `send` takes
+-- the line of bytes under a command, which `receive` writes after `done ` and `send` takes
 unfoldable pub spelled_of : ℕ → List ℕ → List ℕ
 spelled_of command d = word_of command ++ digits_of d
 

@@ -25,6 +25,8 @@ use preview::Price;
 use receiver::{Cause, Push, Pushed, Reassembler, Stored, Tallies};
 use refusals::Refusal;
 
+// This struct and those that follow are the C interface: a flag and a number stand in them where a Rust call answers a `Result`.
+
 // ok with a length or a count, or a refusal's number.
 #[repr(C)]
 #[derive(Clone, Copy)]

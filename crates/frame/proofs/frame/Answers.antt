@@ -40,7 +40,7 @@ framed field f control marker x h room is k l m =
     let end = control_byte control (leb field (length f)) ∷ [] in
     summed (omega (arith, length-append body end, body_length field f marker h)) (wrote_then k (wrote_as (ap (λ (y : ℕ). y ∷ []) is) l)) m
 
--- the place behind the body
+-- the place after the body
 behind : {b c : List ℕ} {p : ℕ} (field : ℕ) (f : List ℕ) (marker : ℕ) → length f ≤ field → Wrote b 0 (body_of field f marker) c p → p ≡ field
 behind field f marker h w = omega (arith, w.next_is, body_length field f marker h)
 
