@@ -14,7 +14,7 @@ ghost use Rattle.ax25_token.specs.Token.{two_digits, suffix, form_of, read_lette
 
 use bits::reader::{Two, bit_take_at, bit_text_at, take_at};
 
-// A call: its text is the first len bytes.
+// A call: its text is the first len bytes. It is put together letter by letter, and memory is fixed: so it is an array with a length.
 #[derive(Clone, Copy)]
 pub struct Call {
     pub bytes: [u8; 16],

@@ -113,7 +113,8 @@ pub fn take_at(s: &[u8], at: usize, n: usize) -> Option<(u64, usize)>
     r.take(n)
 }
 
-// The n bits from a position on as text of 0 and 1, and the number that `vb_val` reads there.
+// The n bits from a position on as text of 0 and 1, and the number that `vb_val` reads there. `take_at` and `text_at` spend a reader on the
+// two calls that the source has: one of both would take the choice as a parameter at every call, and is no plainer.
 pub fn text_at(s: &[u8], at: usize, n: usize) -> Option<(u64, usize)>
     requires { (n ≤ 16) × (length s.now < 2 ^ 60) }
     ensures { result ≡ took_text n (unpack s.now) at }

@@ -1,13 +1,14 @@
 // Lines that are a history of calls on one receiver, with states that are kept under names and returned to: document 02, E8.
 ghost use Rattle.std.specs.Prelude.{◌≡◌, length};
 
-use crate::{Step, call, refused, start, store};
+use crate::{Step, call, refused, start};
 use kept::{Keeping, Kept};
 use lines::answer::{Outcome, same_count, same_refusal, same_word};
 use lines::field::{field, fields, hex, pieces};
 use receiver::Reassembler;
 use refusals::Refusal;
 use texts::part::piece;
+use texts::space::zeros;
 
 // The receiver that listens, and the states that are kept.
 #[derive(Clone, Copy)]
@@ -32,17 +33,10 @@ pub fn channel(line: &[u8]) -> Outcome {
     }
 }
 
-// The lent bytes for the stores of the kept states. The contract gives only the length, as that of `store` does.
-fn lent_bytes() -> [u8; 40000]
-    ensures { 40000 ≡ length result }
-{
-    [0; 40000]
-}
-
 // Makes every step of a line, up to the first whose answer is not the recorded one.
 fn steps(line: &[u8], receiver: Reassembler) -> Outcome {
-    let mut space = store();
-    let mut lent = lent_bytes();
+    let mut space: [u8; Reassembler::RX_BUFFER] = zeros();
+    let mut lent: [u8; Kept::LENT] = zeros();
     let mut listener = Listener {
         receiver,
         kept: Kept::none(),

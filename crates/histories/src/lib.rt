@@ -10,6 +10,7 @@ use lines::field::{all_hex, call_of, field, fields, pieces};
 use receiver::{Push, Pushed, Reassembler};
 use refusals::Refusal;
 use texts::part::piece;
+use texts::space::zeros;
 
 // What comes of a call, and the receiver that it leaves.
 #[derive(Clone, Copy)]
@@ -47,16 +48,9 @@ fn refused(line: &[u8], refusal: Refusal) -> Outcome {
     same_refusal(field(line, 2), u8::from(refusal))
 }
 
-// The receiver's store. The contract gives only the length, so that no caller's proof unfolds the array.
-fn store() -> [u8; 5000]
-    ensures { 5000 ≡ length result }
-{
-    [0; 5000]
-}
-
 // Makes every call of a line, up to the first whose answer is not the recorded one.
 fn calls(line: &[u8], mut receiver: Reassembler) -> Outcome {
-    let mut space = store();
+    let mut space: [u8; Reassembler::RX_BUFFER] = zeros();
     for i in 2..fields(line) {
         let step = call(receiver, &mut space, field(line, i));
         match step.outcome {

@@ -71,7 +71,8 @@ fn every<R: Read>(
 }
 
 // Answers every line, as long as the answers can be written. Those of all lines that were read at once are written at once. The
-// receiver that is left, or none where an answer could not be written.
+// receiver that is left, or none where an answer could not be written. The loop of `send_lines` is the same but for the receiver, which this one
+// hands on from line to line: one loop for both would take a closure that lends it store and data, and is no plainer.
 fn lines<R: Read>(
     reader: &mut R,
     receiver: Reassembler,

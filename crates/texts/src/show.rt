@@ -29,7 +29,8 @@ fn put_one(out: &mut [u8], at: usize, x: u8) -> usize
     }
 }
 
-// Bytes as they are shown. The next place.
+// Bytes as they are shown. The next place. The loop is that of `put_hex` with another function for a byte: as a parameter, that function
+// would bring a contract on all its calls, which is longer than the loop.
 pub fn put_shown(out: &mut [u8], at: usize, s: &[u8]) -> usize
     requires { (at < 2 ^ 59) × (length s.now < 2 ^ 56) }
     ensures { Wrote out.old at (shown s.now) out.new result }
