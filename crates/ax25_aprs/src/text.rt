@@ -164,9 +164,11 @@ pub fn text_decode(s: &[u8], at: usize, position: bool, out: &mut [u8], to: usiz
         let n = put_selves(s, i, out, next);
         i += n * 7;
         next += n;
-        let Some((code, after)) = bits::reader::take_at(s, i, 7) else {
+        if bits::reader::remaining_at(s, i) < 7 {
             return next;
-        };
+        }
+        let code = field::value(s, i, 7);
+        let after = i + 7;
         next = put_code(s, after, position, code, out, next);
         i = after + span(position, code);
     }

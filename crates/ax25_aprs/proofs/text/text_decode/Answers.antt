@@ -2,6 +2,7 @@
 -- Assumes nothing.
 use native.Mathlib.Omega.{arith}
 use borrow.Author.Rules.{rules}
+use mathlib.Core.Path.{◌≡◌}
 use Prim.Native.Nat.{ℕ, ◌+◌, ◌-◌, ◌*◌, ◌≤◌, ◌<◌}
 use lib.ListN.{length, drop}
 use lib.Seq.{drop-drop}
@@ -11,8 +12,7 @@ use Rattle.ax25_aprs.specs.Text.{code_text, code_span}
 use Rattle.ax25_aprs.proofs.SelfLaws.{wrote_selves}
 use Rattle.ax25_aprs.proofs.TextLaws.{read_short, read_step, span_le, code_length}
 use Rattle.laws.proofs.WroteLaws.{wrote_none, wrote_then}
-use mathlib.Core.Path.{◌≡◌, sym, ◌∙◌}
-use Rattle.ax25_aprs.proofs.ValueLaws.{bits_left, told_is, told_few}
+use Rattle.ax25_aprs.proofs.ValueLaws.{bits_left}
 use Rattle.ax25_aprs.proofs.text.text_decode.Goals as goal
 
 -- the place stays below a bound: a code of seven bits gives at most eight bytes, and more bits at most a byte each
@@ -20,31 +20,34 @@ room_on : (all i next n k m : ℕ) {most : ℕ} → next + (all + 14 - i) * 2 �
     → next + n + m + (all + 14 - (i + n * 7 + 7 + k)) * 2 ≤ most
 room_on all i next n k m h r l s c = omega arith
 
-pub returns-in_default : goal.returns-in_default
-returns-in_default c =
+pub loop-out-init : goal.loop-out-init
+loop-out-init c = (search rules, omega arith, λ e r h. h)
+
+pub returns-then-remaining_at-lt7 : goal.returns-then-remaining_at-lt7
+returns-then-remaining_at-lt7 c =
     let a = c.args in
     let i = c.loop-out.i in
     let u = unpack a.s.now in
     let selves = c.put_selves-n in
     let n = selves.result in
-    let few : length (drop (i + n * 7) u) < 7 = told_few u (i + n * 7) 7 (sym c.take_at.ensures ∙ c.in_default.is) in
+    let few : length (drop (i + n * 7) u) < 7 = omega (arith, bits_left a.s.now (i + n * 7), c.remaining_at-in-loop-out.ensures) in
     let many : n * 7 ≤ length (drop i u) = omega (arith, bits_left a.s.now i, selves.ensures.result_in_bounds.0) in
     c.loop-out.invariant.2 _ _ (wrote_selves a.position n i u many selves.ensures.result_in_bounds.1 selves.ensures.wrote (rw (read_short a.position (drop (i + n * 7) u) few) wrote_none))
 
 pub put_code-next-requires : goal.put_code-next-requires
 put_code-next-requires c =
-    let u = unpack c.args.s.now in
-    let at = c.loop-out.i + c.put_selves-n.result * 7 in
-    let got = told_is u at 7 _ _ (sym c.take_at.ensures ∙ c.in-Some.is) in
-    (search rules, omega (arith, value_take_lt (drop at u) 7, got.value_is), omega (arith, c.put_selves-n.ensures.result_in_bounds.0))
+    let a = c.args in
+    let selves = c.put_selves-n in
+    let b = drop (c.loop-out.i + selves.result * 7) (unpack a.s.now) in
+    omega (arith, value_take_lt b 7, c.value-code.ensures, selves.ensures.result_in_bounds.0, c.remaining_at-in-loop-out.ensures)
 
 pub overflow_add-i-in-loop-out : goal.overflow_add-i-in-loop-out
 overflow_add-i-in-loop-out c =
     let a = c.args in
-    omega (arith, c.span.ensures, span_le a.position c.in-Some.code, told_is (unpack a.s.now) (c.loop-out.i + c.put_selves-n.result * 7) 7 _ _ (sym c.take_at.ensures ∙ c.in-Some.is), bits_left a.s.now (c.loop-out.i + c.put_selves-n.result * 7))
+    omega (arith, c.span.ensures, span_le a.position c.value-code.result)
 
 pub loop-out-smaller : goal.loop-out-smaller
-loop-out-smaller c = omega (arith, c.remaining_at.ensures, told_is (unpack c.args.s.now) (c.loop-out.i + c.put_selves-n.result * 7) 7 _ _ (sym c.take_at.ensures ∙ c.in-Some.is))
+loop-out-smaller c = omega (arith, c.remaining_at.ensures)
 
 pub loop-out-preserved : goal.loop-out-preserved
 loop-out-preserved c =
@@ -55,19 +58,20 @@ loop-out-preserved c =
     let run : n * 7 ≤ length (drop c.loop-out.i u) = omega (arith, bits_left a.s.now c.loop-out.i, selves.ensures.result_in_bounds.0) in
     let i = c.loop-out.i + n * 7 in
     let b = drop i u in
-    let code = c.in-Some.code in
-    let got = told_is u i 7 _ _ (sym c.take_at.ensures ∙ c.in-Some.is) in
+    let left = c.remaining_at-in-loop-out.ensures in
+    let read = c.value-code in
     let put = c.put_code-next in
-    let k = code_span a.position code in
-    let small = span_le a.position code in
-    let on : i + (7 + k) ≡ c.in-Some.after + c.span.result = omega (arith, c.span.ensures, got.next_is) in
-    let size = code_length a.position code (drop c.in-Some.after u) in (
+    let k = code_span a.position read.result in
+    let small = span_le a.position read.result in
+    let many : 7 ≤ length b = omega (arith, bits_left a.s.now i, left) in
+    let on : i + (7 + k) ≡ i + 7 + c.span.result = omega (arith, c.span.ensures) in (
       search rules,
-      omega (arith, room_on (length a.s.now * 8) c.loop-out.i c.loop-out.next n k (length (code_text a.position code (drop c.in-Some.after u))) c.loop-out.invariant.1 selves.ensures.result_in_bounds.0 (omega (arith, got.enough, bits_left a.s.now i)) small size, c.span.ensures, got.next_is, put.ensures.next_is),
+      rw (c.span.ensures, put.ensures.next_is)
+          (room_on (length a.s.now * 8) c.loop-out.i c.loop-out.next n k (length (code_text a.position read.result (drop (i + 7) u))) c.loop-out.invariant.1 selves.ensures.result_in_bounds.0 (omega (arith, left)) small (code_length a.position read.result (drop (i + 7) u))),
       λ e r h.
           c.loop-out.invariant.2 e r
           (wrote_selves a.position n c.loop-out.i u run selves.ensures.result_in_bounds.1 selves.ensures.wrote
-          (rw (read_step a.position b got.enough, ← got.value_is, drop-drop 7 i u, ← got.next_is, drop-drop (7 + k) i u, on) (wrote_then put.ensures h))),
+          (rw (read_step a.position b many, ← read.ensures, drop-drop 7 i u, drop-drop (7 + k) i u, on) (wrote_then put.ensures h))),
     )
 
 pub returns : goal.returns

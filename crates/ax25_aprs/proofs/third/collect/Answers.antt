@@ -2,9 +2,7 @@
 -- Assumes nothing.
 use native.Mathlib.Omega.{arith}
 use mathlib.Core.Path.{sym}
-use Prim.Native.Nat.{◌-◌, ◌≤◌}
-use lib.ListN.{length}
-use Rattle.ax25_aprs.proofs.FieldLaws.{Free, free_none, free_more, span_ended, span_full, collect_short}
+use Rattle.ax25_aprs.proofs.FieldLaws.{free_none, free_more, span_ended, span_full, collect_short}
 use Rattle.ax25_aprs.proofs.third.collect.Goals as goal
 
 pub loop-j-init : goal.loop-j-init

@@ -1,10 +1,8 @@
 -- `ax25_aprs::third::collect` meets its contract: none of the bytes before j is a stop byte.
 -- Assumes nothing.
-use native.Mathlib.Omega.{arith}
-use mathlib.Core.Path.{sym}
 use Prim.Native.Nat.{◌-◌, ◌≤◌}
 use lib.ListN.{length}
-use Rattle.ax25_aprs.proofs.FieldLaws.{Free, free_none, free_more, span_ended, span_full, collect_short}
+use Rattle.ax25_aprs.proofs.FieldLaws.{Free}
 use Rattle.ax25_aprs.proofs.third.collect.Given as goal
 
 abbrev pub invariant-loop-j : goal.invariant-loop-j
