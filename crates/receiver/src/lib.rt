@@ -152,7 +152,9 @@ impl Joiner {
         }
     }
 
-    // A fragment's tail goes after what is held, if there is room.
+    // A fragment's tail goes after what is held, if there is room. The bounds of state and store stand here and at `accept` and are no type with an
+    // invariant: any `Joiner` may be handed in, and of a struct of state and store each function would have to take the store out before it writes
+    // to it, and each contract would say `self.entry.store.now` and `self.exit.1.0.now` in place of `store.old` and `store.new`.
     fn grow(self, store: &mut [u8], first: u8, tail: &[u8]) -> Joined
         requires { (length store.old ≡ 5000) × ((self.held ≤ 5000) × (self.nfrag ≤ 255)) }
         ensures { joined_after result store.new ≡ grow_of self store.old first tail.now }

@@ -17,6 +17,11 @@ use Rattle.refusals.proofs.OutcomeLaws.{not_refused, same_answer_lem, past}
 use Rattle.sender.specs.Send.{count_of, count_for, check_of, lead_of, fragment_of, most_of, send_of}
 use Rattle.sender.proofs.CountLaws.{count_one}
 
+-- ---- the field
+
+pub field_accepted : (field : ℕ) → 3 ≤ field → field ≤ 512 → field_ok field ≡ true
+field_accepted field l h = simp (le-leb 3 field l, le-leb field 512 h)
+
 -- ---- `count_for_field`
 
 module _ (total field : ℕ) where

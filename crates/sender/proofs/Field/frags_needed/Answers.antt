@@ -1,8 +1,8 @@
--- `sender::frags_needed` meets its contract.
+-- `sender::Field::frags_needed` meets its contract.
 -- Assumes nothing.
 use mathlib.Core.Path.{refl}
 use Rattle.sender.specs.Send.{ceiling}
-use Rattle.sender.proofs.frags_needed.Goals as goal
+use Rattle.sender.proofs.Field.frags_needed.Goals as goal
 
 pub returns : goal.returns
 unfolding ceiling
