@@ -1,6 +1,7 @@
 -- Bodies by cases, for the code.
 -- Assumes nothing.
 use mathlib.Core.Path.{◌≡◌, refl, ap, ◌∙◌}
+use mathlib.Core.Logic.{inl, inr}
 use mathlib.Core.Bool.{Bool, false}
 use mathlib.Core.List.{List, [], ◌∷◌, ◌++◌, append-nil}
 use Rattle.std.proofs.Common.{None, Some}
@@ -14,6 +15,7 @@ use Rattle.laws.specs.Text.{filled}
 use Rattle.ax25_token.specs.Token.{read_token}
 use Rattle.ax25_address.specs.declared.classify.AprsType.{AprsType}
 use Rattle.ax25_address.specs.declared.classify.AprsType.TheVariants as kind
+use Rattle.ax25_address.specs.contracts.classify.AprsType.{the_type}
 use Rattle.ax25_address.specs.Kind.{type_number}
 use Rattle.ax25_address.specs.Types.{Text, Position, TimestampedPosition}
 use Rattle.ax25_aprs.specs.Text.{read_text}

@@ -1,8 +1,8 @@
 -- The ways through the coders of bodies.
 -- Assumes nothing.
-use Rattle.std.proofs.Common.{Result}
+use Rattle.std.proofs.Common.{Result, Err}
 use Rattle.refusals.specs.declared.Refusal.{Refusal}
-use mathlib.Core.Path.{◌≡◌, ap, ◌∙◌}
+use mathlib.Core.Path.{◌≡◌, refl, ap, ◌∙◌}
 use mathlib.Core.Bool.{Bool, false}
 use mathlib.Core.List.{List}
 use Rattle.std.proofs.Common.{Option, None}

@@ -4,6 +4,7 @@ use Rattle.ax25_aprs.proofs.PartLaws.{reads}
 use lib.ListN.{drop}
 use Rattle.laws.specs.Bits.{unpack}
 use Rattle.ax25_body.proofs.BodyLaws.{read_text_lem, read_position_lem, read_timestamped_lem, read_other}
+use borrow.Author.Rules.{rules}
 use Rattle.ax25_body.proofs.body.aprs_decode.Goals as goal
 
 pub returns-in-Text : goal.returns-in-Text

@@ -2,6 +2,7 @@
 -- Assumes nothing.
 use Rattle.laws.proofs.ListLaws.{from_place}
 use Rattle.ax25_body.proofs.CodeLaws.{code_text_lem, code_position, code_timestamped, code_other}
+use borrow.Author.Rules.{rules}
 use Rattle.ax25_body.proofs.body.aprs_encode.Goals as goal
 
 pub returns-in-Text : goal.returns-in-Text

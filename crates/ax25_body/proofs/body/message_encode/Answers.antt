@@ -3,6 +3,7 @@
 use native.Mathlib.Omega.{arith}
 use mathlib.Core.Path.{refl}
 use mathlib.Core.Bool.{false}
+use Prim.Native.Nat.{◌-◌}
 use lib.ListN.{take, drop, length-take, length-drop}
 use Rattle.laws.specs.Bits.{unpack}
 use Rattle.ax25_token.specs.Token.{token_bits}
@@ -11,6 +12,7 @@ use Rattle.ax25_aprs.specs.Body.{call_of}
 use Rattle.ax25_aprs.specs.Coded.{or_refused}
 use Rattle.ax25_aprs.specs.Text.{text_bits}
 use Rattle.ax25_body.proofs.CodeLaws.{front_min, rest_min, does_gave, does_bad, gave_near, message_is}
+use borrow.Author.Rules.{rules}
 use Rattle.refusals.specs.declared.Refusal.TheVariants as refusal
 use Rattle.refusals.proofs.OutcomeLaws.{exit_none}
 use Rattle.ax25_body.proofs.body.message_encode.Goals as goal

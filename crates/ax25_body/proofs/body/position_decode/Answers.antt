@@ -5,6 +5,7 @@ use Rattle.laws.specs.Bits.{unpack}
 use Rattle.ax25_aprs.specs.LatLon.{read_latlon}
 use Rattle.ax25_aprs.proofs.PartLaws.{reads_then}
 use Rattle.ax25_body.specs.Read.{read_position}
+use borrow.Author.Rules.{rules}
 use Rattle.ax25_body.proofs.body.position_decode.Goals as goal
 
 pub returns : goal.returns

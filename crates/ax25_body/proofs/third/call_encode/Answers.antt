@@ -1,6 +1,7 @@
 -- `ax25_body::third::call_encode` meets its contract.
 -- Assumes nothing.
 use native.Mathlib.Omega.{arith}
+use Prim.Native.Nat.{◌-◌}
 use lib.ListN.{take, length-take}
 use Rattle.laws.specs.Bits.{unpack}
 use Rattle.ax25_token.specs.Token.{token_bits}

@@ -1,10 +1,12 @@
 -- `ax25_body::third::first_encode` meets its contract.
 -- Assumes nothing.
 use native.Mathlib.Omega.{arith}
+use mathlib.Core.Path.{refl}
 use lib.ListN.{length-drop}
 use Rattle.laws.proofs.ListLaws.{from_place}
 use Rattle.ax25_body.specs.Read.{second_bits}
 use Rattle.ax25_body.proofs.PieceLaws.{coded, uncoded, coded_near, does_field, third_is}
+use borrow.Author.Rules.{rules}
 use Rattle.refusals.proofs.OutcomeLaws.{exit_is}
 use Rattle.ax25_body.proofs.third.first_encode.Goals as goal
 

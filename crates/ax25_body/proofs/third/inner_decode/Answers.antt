@@ -1,7 +1,7 @@
 -- `ax25_body::third::inner_decode` meets its contract.
 -- Assumes nothing.
 use native.Mathlib.Omega.{arith}
-use mathlib.Core.Path.{sym, ◌∙◌}
+use mathlib.Core.Path.{refl, sym, ◌∙◌}
 use lib.ListN.{drop}
 use Rattle.laws.specs.Bits.{unpack}
 use Rattle.laws.proofs.ByteLaws.{length_unpack}
@@ -10,6 +10,7 @@ use Rattle.ax25_aprs.specs.Body.{read_body}
 use Rattle.ax25_aprs.specs.Third.{inner_type}
 use Rattle.ax25_aprs.proofs.PartLaws.{reads_then}
 use Rattle.ax25_body.proofs.ThirdLaws.{inner_none, inner_some}
+use borrow.Author.Rules.{rules}
 use Rattle.ax25_body.proofs.third.inner_decode.Goals as goal
 
 pub returns-in_err-k : goal.returns-in_err-k

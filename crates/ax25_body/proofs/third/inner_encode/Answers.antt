@@ -6,6 +6,7 @@ use Rattle.ax25_aprs.specs.Third.{inner_type}
 use Rattle.ax25_aprs.proofs.PartLaws.{does_then}
 use Rattle.ax25_body.specs.Read.{after_type}
 use Rattle.ax25_body.proofs.PieceLaws.{inner_short, inner_is}
+use borrow.Author.Rules.{rules}
 use Rattle.ax25_body.proofs.third.inner_encode.Goals as goal
 
 pub returns-then-d-lt2 : goal.returns-then-d-lt2

@@ -4,6 +4,7 @@ use native.Mathlib.Omega.{arith}
 use mathlib.Core.Path.{sym, ◌∙◌}
 use borrow.Author.Tests.{eq-eqb, ne_eqb}
 use Rattle.ax25_body.proofs.PieceLaws.{number_zero, number_one, number_two, number_last}
+use borrow.Author.Rules.{rules}
 use Rattle.ax25_body.proofs.third.inner_number.Goals as goal
 
 pub returns-then-opens : goal.returns-then-opens

@@ -1,10 +1,12 @@
 -- `ax25_body::third::last_encode` meets its contract.
 -- Assumes nothing.
 use native.Mathlib.Omega.{arith}
+use mathlib.Core.Path.{refl}
 use Prim.Native.Nat.{◌+◌}
 use lib.ListN.{length-drop}
 use Rattle.ax25_body.proofs.CodeLaws.{rest_min}
 use Rattle.ax25_body.proofs.PieceLaws.{coded, uncoded, coded_near, does_full, does_ended}
+use borrow.Author.Rules.{rules}
 use Rattle.refusals.proofs.OutcomeLaws.{exit_is}
 use Rattle.ax25_body.proofs.third.last_encode.Goals as goal
 

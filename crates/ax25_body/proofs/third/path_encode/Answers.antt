@@ -3,6 +3,7 @@
 use mathlib.Core.Path.{refl}
 use Rattle.laws.proofs.ListLaws.{from_place}
 use Rattle.ax25_body.proofs.PieceLaws.{found_is, found_within, found_short, path_short, path_full, path_ended}
+use borrow.Author.Rules.{rules}
 use Rattle.refusals.specs.declared.Refusal.TheVariants as refusal
 use Rattle.refusals.proofs.OutcomeLaws.{exit_none}
 use Rattle.ax25_body.proofs.third.path_encode.Goals as goal

@@ -1,10 +1,12 @@
 -- `ax25_body::third::second_encode` meets its contract.
 -- Assumes nothing.
 use native.Mathlib.Omega.{arith}
+use mathlib.Core.Path.{refl}
 use lib.ListN.{length-drop}
 use Rattle.laws.proofs.ListLaws.{from_place}
 use Rattle.ax25_aprs.specs.Third.{collect_of, path_field}
 use Rattle.ax25_body.proofs.PieceLaws.{coded, uncoded, coded_near, does_field, second_is}
+use borrow.Author.Rules.{rules}
 use Rattle.refusals.proofs.OutcomeLaws.{exit_is}
 use Rattle.ax25_body.proofs.third.second_encode.Goals as goal
 

@@ -1,6 +1,7 @@
 -- `ax25_body::third::third_decode` meets its contract.
 -- Assumes nothing.
 use native.Mathlib.Omega.{arith}
+use mathlib.Core.Path.{refl}
 use lib.ListN.{drop}
 use Rattle.laws.specs.Bits.{unpack}
 use Rattle.laws.specs.Text.{ascii}
