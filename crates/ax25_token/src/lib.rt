@@ -15,13 +15,14 @@ ghost use Rattle.ax25_token.specs.Token.{two_digits, suffix, form_of, read_lette
 use bits::reader::{Two, bit_take_at, bit_text_at, take_at};
 use std::marker::Model;
 
-// A call: its text is the first len bytes.
+// A call: its text is the first len bytes, and len is at most 16.
 #[derive(Clone, Copy)]
 pub struct Call {
     pub bytes: [u8; 16],
     pub len: usize,
 }
 
+// Contracts see the two fields. That len is at most 16 is proved wherever a call is built.
 impl Model for Call {
     ghost use Rattle.std.specs.Prelude.{◌≤◌};
     ghost use Rattle.ax25_token.specs.Call.{Call as Shown};
@@ -38,7 +39,7 @@ impl Model for Call {
 // CALL_ALPHABET of the source.
 static CALL_ALPHABET: [u8; 37] = *b" ABCDEFGHIJKLMNOPQRSTUVWXYZ0123456789";
 
-// The names of PAIRS, FIXED and NUMBERED, from index 37 on.
+// The names of PAIRS, FIXED and NUMBERED, from index 37 on, each with its length: a static cannot hold a Call, which has an invariant.
 static NAMES: [([u8; 16], usize); 15] = [
     (*b"WIDE            ", 4),
     (*b"PNW             ", 3),
