@@ -73,7 +73,7 @@ fn text_bytes(c: &[u8], l: usize, mark: u8, out: &mut [u8], to: usize) -> usize
 
 // The address field of a call: its letters shifted, blanks up to l, and the SSID byte, with the marks set in it. The next place.
 pub fn call_bytes(c: Call, l: usize, mark: u8, out: &mut [u8], to: usize) -> usize
-    requires { (c.len ≤ 16) × (l ≤ 7) × (to < 2 ^ 60) }
+    requires { (l ≤ 7) × (to < 2 ^ 60) }
     ensures { Wrote out.old to (set (call_bytes l (text_of c)) l (bit_or (get_or (call_bytes l (text_of c)) l 0) mark)) out.new result }
 {
     text_bytes(&c.bytes[0..c.len], l, mark, out, to)

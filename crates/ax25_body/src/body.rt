@@ -59,7 +59,7 @@ pub fn aprs_encode(
 
 // The text of a call that is held. The next place.
 pub(crate) fn put_text(c: Call, out: &mut [u8], to: usize) -> usize
-    requires { (c.len ≤ 16) × (to < 2 ^ 60) }
+    requires { to < 2 ^ 60 }
     ensures wrote { Wrote out.old to (text_of c) out.new result }
     ensures value { result ≡ to + c.len }
 {
@@ -68,7 +68,7 @@ pub(crate) fn put_text(c: Call, out: &mut [u8], to: usize) -> usize
 
 // `call:<9`: the text of a call with blanks up to nine. The next place.
 fn put_filled(c: Call, out: &mut [u8], to: usize) -> usize
-    requires { (c.len ≤ 16) × (to < 2 ^ 60) }
+    requires { to < 2 ^ 60 }
     ensures wrote { Wrote out.old to (filled 9 (text_of c)) out.new result }
     ensures upper_bound { result ≤ to + 16 }
 {

@@ -3,7 +3,11 @@
 use Rattle.std.specs.Prelude.{Bool, List, [], ◌∷◌, ℕ, Option, None, Some, IfSome, ◌+◌, ◌≤◌, take, drop, set, replicate}
 use Rattle.bits.specs.Read.{taken}
 use Rattle.ax25_token.specs.Token.{wide_number, Form, spelled, paired, named, counted, begun, no_token}
-use Rattle.ax25_token.specs.declared.Call.{Call}
+
+-- a call as the contracts see it: 16 bytes, and how many of them are its text
+pub record Call : Type 0 where
+  pub bytes : List ℕ
+  pub len : ℕ
 
 -- the text of a call
 unfoldable pub text_of : Call → List ℕ

@@ -209,7 +209,7 @@ pub fn token_encode(c: &[u8], l: usize, out: &mut [u8], at: usize) -> Option<usi
 
 // The same of a call that is held.
 pub fn put_call(c: Call, l: usize, out: &mut [u8], at: usize) -> Option<usize>
-    requires { (c.len ≤ 16) × (at < 2 ^ 60) }
+    requires { at < 2 ^ 60 }
     ensures { Puts (unpack out.old) at (token_bits l (text_of c)) (unpack out.new) result }
 {
     token_encode(&c.bytes[..c.len], l, out, at)
@@ -217,7 +217,6 @@ pub fn put_call(c: Call, l: usize, out: &mut [u8], at: usize) -> Option<usize>
 
 // A call that is held starts with w.
 pub fn call_starts(c: Call, w: &[u8]) -> bool
-    requires { c.len ≤ 16 }
     ensures { result ≡ starts w.now (text_of c) }
 {
     starts(&c.bytes[..c.len], w)

@@ -13,79 +13,50 @@ ghost use Rattle.ax25_token.specs.Tables.{call_alphabet};
 ghost use Rattle.ax25_token.specs.Token.{two_digits, suffix, form_of, read_letters, read_spelled, read_pair, read_number, read_form, read_token};
 
 use bits::reader::{Two, bit_take_at, bit_text_at, take_at};
+use std::marker::Model;
 
-// A call: its text is the first len bytes. It is put together letter by letter, and memory is fixed: so it is an array with a length.
+// A call: its text is the first len bytes, and len is at most 16. It is put together letter by letter, and memory is fixed: so it is an array
+// with a length.
 #[derive(Clone, Copy)]
 pub struct Call {
     pub bytes: [u8; 16],
     pub len: usize,
 }
 
+// Contracts see the two fields. That len is at most 16 is proved wherever a call is built.
+impl Model for Call {
+    ghost use Rattle.std.specs.Prelude.{◌≤◌};
+    ghost use Rattle.ax25_token.specs.Call.{Call as Shown};
+
+    ghost Value = { Shown };
+
+    ghost view = { λ c. record { bytes = c.bytes; len = c.len } };
+
+    ghost invariant = { λ c. c.len ≤ 16 };
+
+    ghost inverse = { λ c. record { bytes = c.bytes; len = c.len } };
+}
+
 // CALL_ALPHABET of the source.
 static CALL_ALPHABET: [u8; 37] = *b" ABCDEFGHIJKLMNOPQRSTUVWXYZ0123456789";
 
-// The names of PAIRS, FIXED and NUMBERED, from index 37 on.
-static NAMES: [Call; 15] = [
-    Call {
-        bytes: *b"WIDE            ",
-        len: 4,
-    },
-    Call {
-        bytes: *b"PNW             ",
-        len: 3,
-    },
-    Call {
-        bytes: *b"MW              ",
-        len: 2,
-    },
-    Call {
-        bytes: *b"OR              ",
-        len: 2,
-    },
-    Call {
-        bytes: *b"WA              ",
-        len: 2,
-    },
-    Call {
-        bytes: *b"ALL             ",
-        len: 3,
-    },
-    Call {
-        bytes: *b"CQ              ",
-        len: 2,
-    },
-    Call {
-        bytes: *b"APIN            ",
-        len: 4,
-    },
-    Call {
-        bytes: *b"APWW            ",
-        len: 4,
-    },
-    Call {
-        bytes: *b"APDR            ",
-        len: 4,
-    },
-    Call {
-        bytes: *b"APBPQ1          ",
-        len: 6,
-    },
-    Call {
-        bytes: *b"APJYC1          ",
-        len: 6,
-    },
-    Call {
-        bytes: *b"APOPYT          ",
-        len: 6,
-    },
-    Call {
-        bytes: *b"APU25N          ",
-        len: 6,
-    },
-    Call {
-        bytes: *b"APVARA          ",
-        len: 6,
-    },
+// The names of PAIRS, FIXED and NUMBERED, from index 37 on, each with its length: a static cannot hold a Call, which has an invariant.
+static NAMES: [([u8; 16], usize); 15] = [
+    (*b"WIDE            ", 4),
+    (*b"PNW             ", 3),
+    (*b"MW              ", 2),
+    (*b"OR              ", 2),
+    (*b"WA              ", 2),
+    (*b"ALL             ", 3),
+    (*b"CQ              ", 2),
+    (*b"APIN            ", 4),
+    (*b"APWW            ", 4),
+    (*b"APDR            ", 4),
+    (*b"APBPQ1          ", 6),
+    (*b"APJYC1          ", 6),
+    (*b"APOPYT          ", 6),
+    (*b"APU25N          ", 6),
+    (*b"APVARA          ", 6),
 ];
 
 // The call with a byte more.
@@ -217,7 +188,8 @@ fn name(i: u64) -> Call
     requires { (37 ≤ i) × (i ≤ 51) }
     ensures { (result ≡ appended empty (form_name (form_of i))) × (result.len ≤ 6) }
 {
-    NAMES[(i - 37) as usize]
+    let (bytes, len) = NAMES[(i - 37) as usize];
+    Call { bytes, len }
 }
 
 // The token of an index from 37 to 51.

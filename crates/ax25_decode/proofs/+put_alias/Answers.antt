@@ -37,7 +37,7 @@ bit-requires t c =
 pub call_bytes-q-requires : goal.call_bytes-q-requires
 call_bytes-q-requires t c =
     let pre = c.requires in
-    (omega (arith, c.alias_call.ensures.1), pre.1, omega (arith, pre.5))
+    (pre.1, omega (arith, pre.5))
 
 pub overflow_sub-n : goal.overflow_sub-n
 overflow_sub-n t c = omega (arith, c.if-n-eq0.false)

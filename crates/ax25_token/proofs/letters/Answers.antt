@@ -26,21 +26,21 @@ less n i = omega arith
 
 pub returns-in_err-v : goal.returns-in_err-v
 returns-in_err-v c =
-    c.loop.invariant.2 _ (short _ _ _ _ _ (some_left c.loop-test.true) (sym c.take_at.ensures ∙ c.in_err-v.was) _ c.from_residual.ensures)
+    rw (← c.c.view_is) (c.loop.invariant.2 _ (short _ _ _ _ _ (some_left c.loop-test.true) (sym c.take_at.ensures ∙ c.in_err-v.was) _ c.from_residual.ensures))
 
 pub returns-then-v-eq0 : goal.returns-then-v-eq0
 returns-then-v-eq0 c =
     let v = c.in_ok-v.v in
     let q = c.in_ok-v.q in
     let told : taken_at _ _ 6 ≡ Some (v, q) = sym c.take_at.ensures ∙ c.in_ok-v.was in
-    c.loop.invariant.2 _ (blank _ _ _ _ _ (some_left c.loop-test.true) v q told c.if-v-eq0.true _ (all _ _ _ _ _ refl))
+    rw (← c.c.view_is) (c.loop.invariant.2 _ (blank _ _ _ _ _ (some_left c.loop-test.true) v q told c.if-v-eq0.true _ (all _ _ _ _ _ refl)))
 
 pub returns-then-strict : goal.returns-then-strict
 returns-then-strict c =
     let v = c.in_ok-v.v in
     let q = c.in_ok-v.q in
     let told : taken_at _ _ 6 ≡ Some (v, q) = sym c.take_at.ensures ∙ c.in_ok-v.was in
-    c.loop.invariant.2 _ (ends _ _ _ _ _ (some_left c.loop-test.true) v q told c.if-strict.true c.if-v-lt37.false _ refl)
+    rw (← c.c.view_is) (c.loop.invariant.2 _ (ends _ _ _ _ _ (some_left c.loop-test.true) v q told c.if-strict.true c.if-v-lt37.false _ refl))
 
 pub loop-preserved : goal.loop-preserved
 loop-preserved c =
@@ -56,4 +56,4 @@ loop-preserved c =
     ]
 
 pub returns : goal.returns
-returns c = c.loop.invariant.2 _ (all _ _ _ _ _ (none_left c.loop-test.false))
+returns c = rw (← c.c.view_is) (c.loop.invariant.2 _ (all _ _ _ _ _ (none_left c.loop-test.false)))

@@ -34,20 +34,20 @@ words =
     ascii "WIDE" ∷ ascii "PNW" ∷ ascii "MW" ∷ ascii "OR" ∷ ascii "WA" ∷ ascii "ALL" ∷ ascii "CQ" ∷ ascii "APIN" ∷ ascii "APWW"
     ∷ ascii "APDR" ∷ ascii "APBPQ1" ∷ ascii "APJYC1" ∷ ascii "APOPYT" ∷ ascii "APU25N" ∷ ascii "APVARA" ∷ []
 
--- a call of a table, by its bytes and its length
-row_parts : (calls : List Call) (k : ℕ) (d : Call) → k < length calls
-    → get_or calls k d ≡ record { bytes = get_or (map (λ (c : Call). c.bytes) calls) k []; len = get_or (map (λ (c : Call). c.len) calls) k 0 }
+-- a row of a table, by its bytes and its length
+row_parts : (rows : List (List ℕ × ℕ)) (k : ℕ) (d : List ℕ × ℕ) → k < length rows
+    → get_or rows k d ≡ (get_or (map (λ (c : List ℕ × ℕ). c.0) rows) k [], get_or (map (λ (c : List ℕ × ℕ). c.1) rows) k 0)
 row_parts [] k d h = absurd (omega arith)
-row_parts (c ∷ calls) zero d h = refl
-row_parts (c ∷ calls) (suc k) d h = row_parts calls k d (omega arith)
+row_parts (c ∷ rows) zero d h = refl
+row_parts (c ∷ rows) (suc k) d h = row_parts rows k d (omega arith)
 
-abbrev table : List Call
-table = map (λ (n : List ℕ). record { bytes = filled 16 n; len = length n }) words
+abbrev table : List (List ℕ × ℕ)
+table = map (λ (n : List ℕ). (filled 16 n, length n)) words
 
 pub returns : goal.returns
 unfolding below is_row call_at same filled appended form_name form_of symbol_form pair_form fixed_form numbered_form wide_row pair_rows fixed_rows numbered_rows long pick
 returns c =
     let i = c.args.i in
-    let known = name_is (map (λ (c : Call). c.bytes) table) (map (λ (c : Call). c.len) table) refl i (omega arith) (omega arith) in
-    let is = row_parts table (i - 37) (record { bytes = []; len = 0 }) (omega arith) in
-    (is ∙ known.0, omega (arith, ap (λ (c : Call). c.len) is, known.1))
+    let known = name_is (map (λ (c : List ℕ × ℕ). c.0) table) (map (λ (c : List ℕ × ℕ). c.1) table) refl i (omega arith) (omega arith) in
+    let is = row_parts table (i - 37) ([], 0) (omega arith) in
+    (ap {B = Call} (λ (r : List ℕ × ℕ). record { bytes = r.0; len = r.1 }) is ∙ known.0, omega (arith, ap (λ (r : List ℕ × ℕ). r.1) is, known.1))

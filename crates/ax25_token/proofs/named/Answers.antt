@@ -4,6 +4,7 @@ use native.Mathlib.Omega.{arith}
 use Rattle.ax25_token.proofs.Cases.{form_wide, form_pair, form_apin, form_apww, form_apdr}
 use Rattle.ax25_token.proofs.TokenWays.{fixed_form_lem, named_pair, named_number, named_fixed}
 use Rattle.ax25_token.proofs.named.Goals as goal
+use Rattle.ax25_token.proofs.named.Goals.{in_default-via-then-i-lt37, in_default-via-else-i-lt37+else-i-lt42}
 
 pub returns-in-37 : goal.returns-in-37
 returns-in-37 c =
@@ -26,9 +27,8 @@ returns-in-38-to-41 c =
     named_pair _ _ c.args.at _ _ c.name-c.ensures.0 c.name-c.ensures.1 _ 1 (form_pair _ (omega arith) (omega arith)) _ c.pair-in-38-to-41.ensures
 
 pub returns-in_default : goal.returns-in_default
-returns-in_default c = absurd (omega arith)
-
-pub returns-in_default-2 : goal.returns-in_default-2
-returns-in_default-2 c =
-    let other = c.in_default.in_default-own.rest in
-    named_fixed _ _ c.args.at _ _ c.name-c.ensures.0 c.name-c.ensures.1 _ (fixed_form_lem _ (omega arith) (omega arith) other.0.0.1 other.0.1 other.1)
+returns-in_default c =
+    elim c.in_default.branch [
+      | in_default-via-then-i-lt37 w ↦ absurd (omega arith)
+      | in_default-via-else-i-lt37+else-i-lt42 w ↦ named_fixed _ _ c.args.at _ _ c.name-c.ensures.0 c.name-c.ensures.1 _ (fixed_form_lem _ (omega arith) (omega arith) (omega arith) (omega arith) (omega arith))
+    ]

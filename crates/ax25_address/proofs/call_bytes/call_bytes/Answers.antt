@@ -6,4 +6,4 @@ use Rattle.ax25_address.proofs.call_bytes.call_bytes.Goals as goal
 pub returns : goal.returns
 returns c =
     let a = c.args in
-    rw (← text_front a.c) c.text_bytes.ensures
+    rw (← text_front a.c, ← c.c.view_is) c.text_bytes.ensures

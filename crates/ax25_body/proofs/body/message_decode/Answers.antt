@@ -4,12 +4,10 @@ use mathlib.Core.Path.{refl}
 use lib.ListN.{drop}
 use Rattle.laws.specs.Bits.{unpack}
 use Rattle.laws.proofs.WroteLaws.{wrote_then}
-use Rattle.ax25_token.specs.Call.{text_of}
 use Rattle.ax25_token.specs.Token.{read_token}
 use Rattle.ax25_token.proofs.CallLaws.{token_next, token_nothing}
 use Rattle.ax25_aprs.proofs.PartLaws.{reads}
 use Rattle.ax25_body.proofs.BodyLaws.{message_none, message_some}
-use borrow.Author.Rules.{rules}
 use Rattle.ax25_body.proofs.body.message_decode.Goals as goal
 
 pub returns-in_default : goal.returns-in_default
@@ -25,7 +23,6 @@ returns c =
     let a = c.args in
     let u = unpack a.s.now in
     let b = drop a.at u in
-    let d = c.token_decode in
-    let t = token_next u (read_token a.mended a.l b) d.result d.ensures.0 _ _ c.in-Some.is in
-    rw (message_some a.mended a.l b (text_of c.in-Some.call) (drop c.in-Some.p u) t)
+    let t = token_next u (read_token a.mended a.l b) _ c.in-Some.ensures.0 _ _ refl in
+    rw (message_some a.mended a.l b _ _ t)
     (reads (wrote_then c.byte-i.ensures (wrote_then c.put_filled-j.ensures.wrote (wrote_then c.byte-k.ensures c.text_decode.ensures))))

@@ -5,4 +5,4 @@ use Rattle.ax25_token.proofs.encode.call_starts.Goals as goal
 
 pub returns : goal.returns
 unfolding text_of
-returns c = c.starts.ensures
+returns c = rw (← c.c.view_is) c.starts.ensures

@@ -5,4 +5,4 @@ use Rattle.ax25_token.proofs.encode.put_call.Goals as goal
 
 pub returns : goal.returns
 unfolding text_of
-returns c = c.token_encode.ensures
+returns c = rw (← c.c.view_is) c.token_encode.ensures
