@@ -49,7 +49,7 @@ fn put_side(out: &mut [u8], at: usize, c: u8, y: u8, n: u8) -> usize
     }
 }
 
-// The place of a symbol table among SYMBOL_TABLES, where the byte is in SYMBOL_TABLES_CODED.
+// The place of a symbol table among SYMBOL_TABLES, where the byte is in SYMBOL_TABLES_CODED. The source has both tables, one for each direction.
 #[tactic(auto, unfolding(crate::specs::LatLon::table_code, laws::specs::Pick::pick))]
 fn table_code(c: u8) -> Option<u64>
     ensures { MatchOption result (table_code c ≡ 8) (λ k. (table_code c ≡ k) × (k < 8)) }
@@ -93,7 +93,7 @@ fn put_lat(s: &[u8], out: &mut [u8], at: usize) -> usize
     put_table(out, q, s[8])
 }
 
-// Longitude, W or E, symbol. The next position.
+// Longitude, W or E, symbol. The next position. It has widths and places of its own, as `lon` has.
 fn put_lon(s: &[u8], out: &mut [u8], at: usize) -> usize
     requires { (19 ≤ length s.now) × (at < 2 ^ 61) }
     ensures { Wrote (unpack out.old) at (lon_bits s.now) (unpack out.new) result }

@@ -56,7 +56,7 @@ fn code(refusal: Option<Refusal>) -> u8
     }
 }
 
-// The refusal with the larger number; none is below any.
+// The refusal with the larger number; none is below any. The definitions take the larger number, and `Refusal` has no order of its own.
 fn larger(a: Option<Refusal>, b: Option<Refusal>) -> Option<Refusal>
     ensures { code_of result ≡ max (code_of a) (code_of b) }
 {

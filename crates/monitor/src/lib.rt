@@ -25,7 +25,8 @@ fn put_call(f: &[u8], l: usize, up: bool, out: &mut [u8], at: usize) -> usize
     put_shown(out, at, &c.bytes[..c.len])
 }
 
-// One of n address fields has its bit 80.
+// One of n address fields has its bit 80. It calls itself on the fields that follow, as the text of the digipeaters does: a loop would count the
+// place of each field besides, and is no plainer.
 fn any_heard(f: &[u8], l: usize, n: usize) -> bool
     requires { (n ≤ 8) × (l ≤ 7) × (n * (l + 1) ≤ length f.now) }
     ensures { result ≡ any_of (map (heard_in l) (fields_of l n f.now)) }
