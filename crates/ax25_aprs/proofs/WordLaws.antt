@@ -173,12 +173,16 @@ module _ (s : List ℕ) (x : ℕ) (first : Some x ≡ slice_get s 0) where
       by [] e = absurd (none-some x (sym e))
       by (y ∷ t) e = ap (λ (z : ℕ). z ∷ t) (sym (same_Some x y e))
 
-  -- the answer of the one word that starts with the letter
-  pub by_letter : (n : ℕ) (w : List ℕ) → ((t : List ℕ) → word_at (x ∷ t) ≡ pick (starts w (x ∷ t)) n 0) → 1 ≤ n → n ≤ 9
+  -- the one word that starts with the letter decides
+  pub by_letter : (n : ℕ) (w : List ℕ) → ((t : List ℕ) → word_at (x ∷ t) ≡ pick (starts w (x ∷ t)) n 0) → pick (starts w s) n 0 ≡ word_at s
+  by_letter n w f = ap (λ (u : List ℕ). pick (starts w u) n 0) front_is ∙ sym (f (drop 1 s)) ∙ ap word_at (sym front_is)
+
+  -- and its answer
+  pub letter_spells : (n : ℕ) (w : List ℕ) → ((t : List ℕ) → word_at (x ∷ t) ≡ pick (starts w (x ∷ t)) n 0) → 1 ≤ n → n ≤ 9
       → (r : Option ℕ) → r ≡ pick (starts w s) (Some n) None → Spells s r
   unfolding pick
-  by_letter n w f low high r e =
-      let told : word_at s ≡ pick (starts w s) n 0 = ap word_at front_is ∙ f (drop 1 s) ∙ ap (λ (u : List ℕ). pick (starts w u) n 0) (sym front_is) in
+  letter_spells n w f low high r e =
+      let told : word_at s ≡ pick (starts w s) n 0 = sym (by_letter n w f) in
       by_test (starts w s)
       (λ t. rw (e, t) (rw t at told, low, high))
       (λ t. rw (e, t) (rw t at told))

@@ -2,6 +2,7 @@
 #![tactic(auto)]
 
 ghost use Rattle.std.specs.Prelude.{◌≡◌, ◌+◌, ◌^◌, ◌<◌, ◌≤◌, length, IfSome};
+ghost use Rattle.input.specs.Stand.{is_over};
 
 use bits_write::copy;
 use std::env::{Env, FillError};
@@ -38,7 +39,9 @@ pub struct Stand {
 
 impl Stand {
     // The input has ended, and no line is left of it.
-    pub fn is_over(&self) -> bool {
+    pub fn is_over(&self) -> bool
+        ensures { result ≡ is_over self.now }
+    {
         self.reached == Reached::InputEnd && self.len == 0
     }
 }

@@ -1,8 +1,9 @@
 // Receiver states that are kept under names, and their stores in 40,000 lent bytes: document 02, E8.
 #![tactic(auto)]
 
-ghost use Rattle.std.specs.Prelude.{◌≡◌, ◌<◌, ◌≤◌, max, length};
+ghost use Rattle.std.specs.Prelude.{◌≡◌, ◌<◌, ◌≤◌, max, length, take};
 ghost use Rattle.std.proofs.lemmas.List.Edits.{sets};
+ghost use Rattle.laws.specs.Text.{same};
 ghost use Rattle.refusals.specs.Outcome.{number, outcome_of};
 ghost use Rattle.receiver.specs.Join.{code_of};
 ghost use Rattle.kept.specs.Keep.{name_ok, is_under, first_from, place_under, place_for, placed, slot_of, free_slot, with_slot, none_kept, start_of, part_of, size_refusal, refusal_in, kept_refusal, lent_refusal, keep_of, return_of, drop_of};
@@ -67,6 +68,23 @@ fn larger(a: Option<Refusal>, b: Option<Refusal>) -> Option<Refusal>
     }
 }
 
+// A name is the first bytes of eight. They are compared one by one: with the library's `==` in its place the compiler copies the kept states
+// of a drop once more, 832 bytes, before it looks for the name.
+fn same_name(name: &[u8], eight: &[u8; 8], len: usize) -> bool
+    requires { (len ≤ 8) × (length eight.now ≡ 8) }
+    ensures { result ≡ same name.now (take len eight.now) }
+{
+    if name.len() != len {
+        return false;
+    }
+    for i in 0..len {
+        if name[i] != eight[i] {
+            return false;
+        }
+    }
+    true
+}
+
 impl Slot {
     // No state is kept here.
     fn free() -> Slot
@@ -105,7 +123,7 @@ impl Slot {
         ensures { result ≡ is_under name.now self.now }
     {
         if name_ok(self.len) {
-            return name == &self.name[..self.len];
+            return same_name(name, &self.name, self.len);
         }
         name.is_empty()
     }
@@ -266,8 +284,8 @@ impl Kept {
     pub fn keep(&self, receiver: Reassembler, store: &[u8], lent: &mut [u8], name: &[u8]) -> Keeping
         ensures { (result, lent.new) ≡ to_keeping_with (keep_of self.now receiver store.now lent.old name.now) }
     {
-        let state = receiver.state.refusal(store.len());
-        let refusal = larger(state, self.lent_refusal(lent.len()));
+        let others = self.lent_refusal(lent.len());
+        let refusal = larger(receiver.state.refusal(store.len()), others);
         let placed = placed(refusal, name.len(), Refusal::Kept, self.place_for(name));
         let mut keeping = self.answered(placed);
         if let Ok(place) = placed {
